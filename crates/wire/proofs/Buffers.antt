@@ -1,0 +1,41 @@
+-- Laws of specs/Buffer.antt: an answer grows at its end. Assumes nothing.
+use mathlib.Core.Path.{_≡_, refl, sym, ap, _∙_}
+use mathlib.Core.List.{List, [], _∷_, _++_, append-assoc, append-nil}
+use Prim.Native.Nat.{ℕ, zero, suc, _+_, _-_, _≤_, _<_}
+use native.Mathlib.Nat.{add-zero, zero-add}
+use native.Mathlib.Numerals.{add-one}
+use native.Mathlib.Omega.{arith}
+use lib.ListN.{length, take, drop, set, getD, length-append, length-drop, length-set}
+use lib.Seq.{take-append-seam, drop-append-add, drop-append-seam, set-append-seam, drop-drop, drop-cons, take-append-le, sets, sets-eq}
+use Rattle.wire.specs.Buffer.{put, overlay}
+
+pub overlay-none : (out : List ℕ) → overlay [] out ≡ out
+unfolding overlay
+overlay-none out = refl
+
+pub length-overlay : (vs out : List ℕ) → length vs ≤ length out → length (overlay vs out) ≡ length out
+unfolding overlay
+length-overlay vs out h = simp (length-append, length-drop) (omega arith)
+
+pub overlay-sets : (vs out : List ℕ) → length vs ≤ length out → sets out 0 vs ≡ overlay vs out
+unfolding overlay
+overlay-sets vs out h = sets-eq vs out 0 (omega arith) ∙ rw zero-add
+
+-- a list put at the answer's end
+pub overlay-put : (vs d out : List ℕ) → put (overlay vs out) (length vs) d ≡ overlay (vs ++ d) out
+unfolding overlay put
+overlay-put vs d out =
+    simp (take-append-seam, drop-append-add, drop-drop, length-append, append-assoc)
+
+-- a byte put at the answer's end
+pub overlay-set : (vs out : List ℕ) (x : ℕ) → length vs < length out → set (overlay vs out) (length vs) x ≡ overlay (vs ++ (x ∷ [])) out
+unfolding overlay
+overlay-set vs out x h =
+    ap (λ (l : List ℕ). set (vs ++ l) (length vs) x) (drop-cons out (length vs) 0 h)
+    ∙ set-append-seam vs (getD out (length vs) 0) (drop (suc (length vs)) out) x
+    ∙ simp (length-append, append-assoc, add-one)
+
+-- what stands in the answer after its first byte
+pub overlay-rest : (x : ℕ) (b out : List ℕ) → take (length b) (drop 1 (overlay (x ∷ b) out)) ≡ b
+unfolding overlay
+overlay-rest x b out = take-append-seam b (drop (suc (length b)) out)

@@ -1,0 +1,4 @@
+pub mod Choose
+pub mod Buffer
+pub mod Sum
+pub mod Word

@@ -1,0 +1,46 @@
+// Leaves over byte slices that every dialect uses.
+use std::num::wrapping_add_u8;
+ghost use mathlib.Core.Path.{_≡_};
+ghost use mathlib.Core.Logic.{_⊎_};
+ghost use Prim.Native.Nat.{_+_, _≤_};
+ghost use lib.ListN.{length};
+ghost use Rattle.wire.specs.Buffer.{put, part};
+ghost use Rattle.wire.specs.Sum.{sumOf};
+
+// The sum of the bytes of s, taken modulo 256.
+pub fn sum(s: &[u8]) -> u8
+    ensures { λ r. ⌜ r ≡ sumOf (now (s .entry)) ⌝ }
+{
+    let mut sum: u8 = 0;
+    let mut i = 0;
+    while i < s.len() {
+        sum = wrapping_add_u8(sum, s[i]);
+        i += 1;
+    }
+    sum
+}
+
+// Copies all of src into dst from index at on.
+pub fn copy(src: &[u8], dst: &mut [u8], at: usize)
+    requires { ⌜ at + length (now src) ≤ length (now dst) ⌝ }
+    ensures { λ _. ⌜ now (dst .exit) ≡ put (now (dst .entry)) at (now (src .entry)) ⌝ }
+{
+    let mut i = 0;
+    while i < src.len() {
+        dst[at + i] = src[i];
+        i += 1;
+    }
+}
+
+// Copies n words from index from to index to; the two runs do not meet.
+pub fn move_words(words: &mut [u32], from: usize, to: usize, n: usize)
+    requires { ⌜ ((from + n ≤ length (now words)) × (to + n ≤ length (now words))) × ((from + n ≤ to) ⊎ (to + n ≤ from)) ⌝ }
+    ensures { λ _. ⌜ now (words .exit) ≡ put (now (words .entry)) to (part (now (words .entry)) from (from + n)) ⌝ }
+{
+    let mut i = 0;
+    while i < n {
+        let x = words[from + i];
+        words[to + i] = x;
+        i += 1;
+    }
+}
