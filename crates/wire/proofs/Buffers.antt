@@ -5,7 +5,7 @@ use Prim.Native.Nat.{ℕ, zero, suc, _+_, _-_, _≤_, _<_}
 use native.Mathlib.Nat.{add-zero, zero-add}
 use native.Mathlib.Numerals.{add-one}
 use native.Mathlib.Omega.{arith}
-use lib.ListN.{length, take, drop, set, getD, length-append, length-drop, length-set}
+use lib.ListN.{length, take, drop, set, getD, length-append, length-drop, length-take}
 use lib.Seq.{take-append-seam, drop-append-add, drop-append-seam, set-append-seam, drop-drop, drop-cons, take-append-le, sets, sets-eq}
 use Rattle.wire.specs.Buffer.{put, overlay}
 
@@ -39,3 +39,12 @@ overlay-set vs out x h =
 pub overlay-rest : (x : ℕ) (b out : List ℕ) → take (length b) (drop 1 (overlay (x ∷ b) out)) ≡ b
 unfolding overlay
 overlay-rest x b out = take-append-seam b (drop (suc (length b)) out)
+
+-- elements stored one after another
+pub put-sets : (vs d : List ℕ) (at : ℕ) → at + length vs ≤ length d → sets d at vs ≡ put d at vs
+unfolding put
+put-sets vs d at h = sets-eq vs d at h ∙ append-assoc (take at d) vs (drop (at + length vs) d)
+
+pub length-put : (d : List ℕ) (at : ℕ) (vs : List ℕ) → at + length vs ≤ length d → length (put d at vs) ≡ length d
+unfolding put
+length-put d at vs h = simp (length-append, length-take, length-drop) (omega arith)

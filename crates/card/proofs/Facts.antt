@@ -1,0 +1,107 @@
+-- From a test that passed to the plain facts of specs/Fit.antt. Assumes nothing.
+use mathlib.Core.Path.{_≡_, refl, sym, ap, _∙_, subst}
+use mathlib.Core.Bool.{Bool, true, false, _&&_, _||_, not}
+use mathlib.Core.List.{List, [], _∷_}
+use Prim.Native.Nat.{ℕ, zero, suc, _+_, _-_, _%_, _/_, _≤_, _<_}
+use native.Mathlib.Nat.{not-suc-le-zero, le-of-suc-le-suc}
+use native.Mathlib.Omega.{arith}
+use borrow.Author.Tests.{leb-true, eqb-true}
+use lib.Dec.{leb, eqb, ltb}
+use lib.ListN.{length, getD, take, drop, length-take, length-drop}
+use lib.Seq.{getD-take, getD-drop}
+use Rattle.wire.specs.Choose.{choose}
+use Rattle.wire.specs.Buffer.{part}
+use Rattle.wire.specs.Word.{minus}
+use Rattle.wire.proofs.Cases.{by-choice}
+use Rattle.card.specs.Layout.{
+  Card,
+  iaAt,
+  lecomAddressAt,
+  loveAddressAt,
+  loveAt,
+  demandsAt,
+  parametersAt,
+  bufferAt,
+  wordCount,
+  memorySize,
+  pendingSize,
+}
+use Rattle.card.specs.Tables.{
+  inSpan,
+  allIn,
+  fitPending,
+  fitAddresses,
+  fitParameters,
+  fitWords,
+  fit,
+  iaMost,
+  lecomLeast,
+  lecomMost,
+  loveMost,
+  loveLeast,
+  loveHighest,
+  demandMost,
+  registerMost,
+}
+use Rattle.card.specs.Fit.{Fit}
+
+pub and-true : (a b : Bool) → (a && b) ≡ true → (a ≡ true) × (b ≡ true)
+and-true true b h = (refl, h)
+and-true false b h = (h, cc)
+
+-- a word at an index of words that are all in a span
+pub allIn-at : (lo hi : ℕ) (s : List ℕ) (i : ℕ) → allIn lo hi s ≡ true → i < length s → inSpan lo hi (getD s i 0) ≡ true
+unfolding allIn
+allIn-at lo hi [] i e h = absurd (not-suc-le-zero h)
+allIn-at lo hi (x ∷ s) zero e h = and-true (inSpan lo hi x) (allIn lo hi s) e .0
+allIn-at lo hi (x ∷ s) (suc i) e h = allIn-at lo hi s i (and-true (inSpan lo hi x) (allIn lo hi s) e .1) (le-of-suc-le-suc h)
+
+-- the same where the words are a part of a longer list
+pub part-at : (lo hi : ℕ) (ws : List ℕ) (a e i : ℕ) → allIn lo hi (part ws a e) ≡ true → a + i < e → e ≤ length ws → inSpan lo hi (getD ws (a + i) 0) ≡ true
+part-at lo hi ws a e i t h k =
+    let l : i < length (part ws a e) = simp (length-take, length-drop) (omega arith) in
+    let same : getD (part ws a e) i 0 ≡ getD ws (a + i) 0 = getD-take (e - a) (drop a ws) i 0 (omega arith) ∙ getD-drop a ws i 0 in
+    subst (λ (x : ℕ). inSpan lo hi x ≡ true) same (allIn-at lo hi (part ws a e) i t l)
+
+-- a span that starts at zero is an upper bound
+pub span-most : (hi x : ℕ) → leb 0 hi ≡ true → inSpan 0 hi x ≡ true → x ≤ hi
+unfolding inSpan choose
+span-most hi x z e = leb-true x hi (and-true (leb 0 x) (leb x hi) (rw z at e) .1)
+
+module _ (card : Card) (fits : fit card ≡ true) where
+  words-fit : (length (card .words) ≡ wordCount) × ((length (card .memory) ≡ memorySize) × ((length (card .pending) ≡ pendingSize) × ((fitWords (card .words) ≡ true) × (fitPending (card .pending) ≡ true))))
+  unfolding fit
+  words-fit =
+      let a = and-true (eqb (length (card .words)) wordCount) _ fits in
+      let b = and-true (eqb (length (card .memory)) memorySize) _ (a .1) in
+      let d = and-true (eqb (length (card .pending)) pendingSize) _ (b .1) in
+      (eqb-true (length (card .words)) wordCount (a .0), (eqb-true (length (card .memory)) memorySize (b .0), (eqb-true (length (card .pending)) pendingSize (d .0), and-true (fitWords (card .words)) (fitPending (card .pending)) (d .1))))
+
+  pub fit-facts : Fit card
+  unfolding fitWords fitAddresses
+  fit-facts =
+      let ws = card .words in
+      let n : length ws ≡ wordCount = words-fit .0 in
+      let w : fitWords ws ≡ true = words-fit .1 .1 .1 .0 in
+      let a = and-true (fitAddresses (getD ws iaAt 0) (getD ws lecomAddressAt 0) (getD ws loveAddressAt 0)) _ w in
+      let b = and-true (allIn loveLeast loveHighest (part ws loveAt demandsAt)) _ (a .1) in
+      let d = and-true (allIn 0 demandMost (part ws demandsAt parametersAt)) _ (b .1) in
+      let r = and-true (fitParameters (part ws parametersAt bufferAt)) (allIn (minus registerMost) registerMost (part ws bufferAt wordCount)) (d .1) in
+      let x = and-true (leb (getD ws iaAt 0) iaMost) _ (a .0) in
+      let y = and-true (leb lecomLeast (getD ws lecomAddressAt 0) && (leb (getD ws lecomAddressAt 0) lecomMost && not (eqb (getD ws lecomAddressAt 0 % 10) 0))) _ (x .1) in
+      let z = and-true (leb lecomLeast (getD ws lecomAddressAt 0)) _ (y .0) in
+      let u = and-true (leb (getD ws lecomAddressAt 0) lecomMost) _ (z .1) in
+      let v = and-true (leb (getD ws loveAddressAt 0) loveMost) _ (y .1) in
+      record {
+        words-length = n;
+        memory-length = words-fit .1 .0;
+        pending-length = words-fit .1 .1 .0;
+        ia = leb-true (getD ws iaAt 0) iaMost (x .0);
+        lecom-least = leb-true lecomLeast (getD ws lecomAddressAt 0) (z .0);
+        lecom-most = leb-true (getD ws lecomAddressAt 0) lecomMost (u .0);
+        love-most = leb-true (getD ws loveAddressAt 0) loveMost (v .0);
+        love = λ k h. part-at loveLeast loveHighest ws loveAt demandsAt k (b .0) (omega arith) (omega arith);
+        demand = λ k h. span-most demandMost (getD ws (demandsAt + k) 0) refl (part-at 0 demandMost ws demandsAt parametersAt k (d .0) (omega arith) (omega arith));
+        register = λ k h. part-at (minus registerMost) registerMost ws bufferAt wordCount k (r .1) (omega arith) (omega arith);
+        pending = words-fit .1 .1 .1 .1;
+      }

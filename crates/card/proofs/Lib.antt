@@ -1,0 +1,5 @@
+pub mod Scans
+pub mod Facts
+pub mod Replies
+pub mod Sweep
+pub mod Floats

@@ -1,0 +1,71 @@
+-- Laws of specs/Reply.antt: what an entry that stops early has given, and that a refusal changes nothing. Assumes nothing.
+use mathlib.Core.Path.{_≡_, refl, sym, ap, _∙_, subst}
+use mathlib.Core.Bool.{Bool, true, false}
+use mathlib.Core.List.{List, []}
+use Prim.Native.Nat.{ℕ, _≤_, _<_}
+use borrow.Author.Tests.{le-leb, lt-leb}
+use lib.Dec.{leb}
+use lib.ListN.{length}
+use Rattle.wire.specs.Choose.{choose}
+use Rattle.wire.specs.Buffer.{overlay}
+use Rattle.wire.proofs.Cases.{yes, no, by-choice}
+use Rattle.wire.proofs.Buffers.{overlay-none}
+use Rattle.card.specs.Numbers.{bufferShort, cardUnfit}
+use Rattle.card.specs.Layout.{Card}
+use Rattle.card.specs.Tables.{fit}
+use Rattle.card.specs.Reply.{Reply, silent, shell, guarded, Keeps, Gave, Did}
+
+-- a number alone: nothing written, no table changed
+pub did-silent : (number : ℕ) (card : Card) → Did (silent number card) number (card .words) (card .memory) (card .pending)
+did-silent number card = record { quiet = refl; numbered = refl; worded = refl; remembered = refl; pended = refl }
+
+pub gave-silent : (number : ℕ) (card : Card) (out : List ℕ) → Gave (silent number card) out number 0 (card .words) (card .memory) (card .pending) out
+gave-silent number card out = record { numbered = refl; measured = refl; written = sym (overlay-none out); worded = refl; remembered = refl; pended = refl }
+
+-- a reply known under another name
+pub did-as : {number : ℕ} {words memory pending : List ℕ} (r q : Reply) → r ≡ q → Did r number words memory pending → Did q number words memory pending
+did-as {number} {words} {memory} {pending} r q e = subst (λ (x : Reply). Did x number words memory pending) e
+
+pub gave-as : {out : List ℕ} {number len : ℕ} {words memory pending out′ : List ℕ} (r q : Reply) → r ≡ q → Gave r out number len words memory pending out′ → Gave q out number len words memory pending out′
+gave-as {out} {number} {len} {words} {memory} {pending} {out′} r q e = subst (λ (x : Reply). Gave x out number len words memory pending out′) e
+
+-- an entry without an answer buffer that did a silent reply, where one with a buffer is meant
+pub gave-did : (r : Reply) (out : List ℕ) {number : ℕ} {words memory pending : List ℕ} → Did r number words memory pending → Gave r out number 0 words memory pending out
+gave-did r out d =
+    record {
+      numbered = d .numbered;
+      measured = sym (ap length (d .quiet));
+      written = sym (ap (λ (b : List ℕ). overlay b out) (d .quiet) ∙ overlay-none out);
+      worded = d .worded;
+      remembered = d .remembered;
+      pended = d .pended;
+    }
+
+module _ (least : ℕ) (card : Card) (out : List ℕ) (reply : Reply) where
+  pub shell-unfit : fit card ≡ false → Gave (shell least card (length out) reply) out cardUnfit 0 (card .words) (card .memory) (card .pending) out
+  unfolding shell
+  shell-unfit h = gave-as (silent cardUnfit card) _ (no _ _ _ _ h refl) (gave-silent cardUnfit card out)
+
+  pub shell-short : fit card ≡ true → length out < least → Gave (shell least card (length out) reply) out bufferShort 0 (card .words) (card .memory) (card .pending) out
+  unfolding shell
+  shell-short h l = gave-as (silent bufferShort card) _ (yes _ _ _ _ h (no _ _ _ _ (lt-leb least (length out) l) refl)) (gave-silent bufferShort card out)
+
+  pub shell-passed : {number len : ℕ} {words memory pending out′ : List ℕ} → fit card ≡ true → least ≤ length out
+      → Gave reply out number len words memory pending out′ → Gave (shell least card (length out) reply) out number len words memory pending out′
+  unfolding shell
+  shell-passed h l = gave-as reply _ (yes _ _ _ _ h (yes _ _ _ _ (le-leb least (length out) l) refl))
+
+-- a refusal changes no table: once for every entry that goes through the shell
+pub keeps-silent : (number : ℕ) (card : Card) → Keeps card (silent number card)
+keeps-silent number card = record { kept = λ _. refl }
+
+pub shell-keeps : (least : ℕ) (card : Card) (room : ℕ) (reply : Reply) → Keeps card reply → Keeps card (shell least card room reply)
+unfolding shell
+shell-keeps least card room reply k =
+    by-choice (Keeps card) (fit card) _ _
+    (λ _. by-choice (Keeps card) (leb least room) _ _ (λ _. k) (λ _. keeps-silent bufferShort card))
+    (λ _. keeps-silent cardUnfit card)
+
+pub guarded-keeps : (card : Card) (reply : Reply) → Keeps card reply → Keeps card (guarded card reply)
+unfolding guarded
+guarded-keeps card reply k = by-choice (Keeps card) (fit card) _ _ (λ _. k) (λ _. keeps-silent cardUnfit card)

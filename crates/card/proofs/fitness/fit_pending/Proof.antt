@@ -1,0 +1,43 @@
+-- `card::fitness::fit_pending` meets its contract: the tests are those of the definition. Assumes nothing.
+use Rattle.card.specs.Tables.{fitPending}
+use borrow.Author.Needs.{needs}
+use Rattle.card.proofs.fitness.fit_pending.Statement.{statement}
+use Rattle.card.proofs.fitness.fit_pending.Tie as tie
+
+shared-slice-read-kind : tie.Need-shared-slice-read-kind
+shared-slice-read-kind c = search needs
+
+shared-slice-read-num : tie.Need-shared-slice-read-num
+shared-slice-read-num c = search needs
+
+shared-slice-read-address : tie.Need-shared-slice-read-address
+shared-slice-read-address c = search needs
+
+shared-slice-read-address-2 : tie.Need-shared-slice-read-address-2
+shared-slice-read-address-2 c = search needs
+
+address-requires : tie.Need-address-requires
+address-requires c κs = search needs
+
+bytes-named-requires : tie.Need-bytes-named-requires
+bytes-named-requires c κs = search needs
+
+is-echoable-requires : tie.Need-is-echoable-requires
+is-echoable-requires c κs = search needs
+
+returns : tie.Need-returns
+unfolding fitPending
+returns c = cc
+
+pub fit-pending-spec : {M : Type 1} → statement M
+fit-pending-spec =
+    tie.close
+    (tie.spec
+    shared-slice-read-kind
+    shared-slice-read-num
+    shared-slice-read-address
+    shared-slice-read-address-2
+    address-requires
+    bytes-named-requires
+    is-echoable-requires
+    returns)

@@ -1,0 +1,52 @@
+-- The entries that set a probe code and restart. Document 01, "What the card holds", last part.
+use Prim.Native.Nat.{ℕ, _+_}
+use mathlib.Core.List.{List, [], _∷_}
+use lib.Dec.{ltb}
+use lib.ListN.{replicate, set}
+use Rattle.wire.specs.Choose.{choose}
+use Rattle.wire.specs.Buffer.{put, part}
+use Rattle.card.specs.Numbers.{done, rangeUnknown}
+use Rattle.card.specs.Layout.{Card, channels, demandsAt, parametersAt, keptAt, bufferAt, operationalAt, savedAt, wordCount, kindAt}
+use Rattle.card.specs.Tables.{noChange, demandMost}
+use Rattle.card.specs.Probe.{faultCode}
+use Rattle.card.specs.Reply.{Reply, silent, guarded}
+
+-- the card with another code for a probe
+unfoldable pub withCode : Card → ℕ → ℕ → Card
+withCode card channel code = record { words = card .words; memory = set (card .memory) channel code; pending = card .pending }
+
+-- "set a probe code (channel above 3: 6)"
+unfoldable pub setCode : Card → ℕ → ℕ → Reply
+setCode card channel code = guarded card (choose (ltb channel channels) (silent done (withCode card channel code)) (silent rangeUnknown card))
+
+-- "demands become 65,535"
+unfoldable pub fullDemands : List ℕ → List ℕ
+fullDemands ws = put ws demandsAt (replicate channels demandMost)
+
+-- "parameters become their saved copy"
+unfoldable pub keptParameters : List ℕ → List ℕ
+keptParameters ws = put ws parametersAt (part ws keptAt bufferAt)
+
+-- a copy of the registers becomes the saved one
+unfoldable pub savedCopy : ℕ → List ℕ → List ℕ
+savedCopy at ws = put ws at (part ws savedAt wordCount)
+
+-- "buffer and operational become saved"
+unfoldable pub savedRegisters : List ℕ → List ℕ
+savedRegisters ws = savedCopy operationalAt (savedCopy bufferAt ws)
+
+-- "the pending change is dropped"
+unfoldable pub dropped : List ℕ → List ℕ
+dropped p = set p kindAt noChange
+
+-- "probe codes become 255"
+unfoldable pub faulted : List ℕ → List ℕ
+faulted memory = put memory 0 (replicate channels faultCode)
+
+-- "Restart: .. the rest stays"
+unfoldable pub restarted : Card → Card
+restarted card =
+    record { words = fullDemands (keptParameters (savedRegisters (card .words))); memory = faulted (card .memory); pending = dropped (card .pending) }
+
+unfoldable pub restart : Card → Reply
+restart card = guarded card (silent done (restarted card))

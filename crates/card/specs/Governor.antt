@@ -1,0 +1,49 @@
+-- The governor's reading: "degrees, or the word fault and no degrees (9), or the word refused (12, then 6 for a channel above 3)".
+use Prim.Native.Nat.{ℕ, _-_}
+use mathlib.Core.Bool.{true, false}
+use mathlib.Core.List.{List, [], _∷_}
+use lib.Dec.{eqb, ltb}
+use lib.Ieee.{Float, odd, binary32, toBits}
+use lib.ListN.{getD}
+use Rattle.wire.specs.Choose.{choose}
+use Rattle.card.specs.Numbers.{answered, rangeUnknown, probeFault, cardUnfit}
+use Rattle.card.specs.Layout.{Card, channels}
+use Rattle.card.specs.Tables.{fit}
+use Rattle.card.specs.Probe.{faultCode}
+use Rattle.card.specs.declared.governor.Governor.{Governor}
+use Rattle.card.specs.declared.governor.Governor.the-variants.{Degrees, Fault, Refused}
+
+-- the code that is 0 °C
+abbrev pub zeroCode : ℕ
+zeroCode = 80
+
+-- the float ± n / 2, written in the one way that an f32 (24 significant bits) is written; no float is computed with
+abbrev pub significantBits : ℕ
+significantBits = 24
+
+unfoldable pub degreesOf : ℕ → Float
+degreesOf code =
+    choose (ltb code zeroCode) (odd significantBits true (zeroCode - code) 0 1) (odd significantBits false (code - zeroCode) 0 1)
+
+-- what the governor is told of a code
+unfoldable pub toldOf : ℕ → Governor
+toldOf code = choose (eqb code faultCode) Fault (Degrees (degreesOf code))
+
+-- what the governor is told of a channel
+unfoldable pub governorOf : Card → ℕ → Governor
+governorOf card channel =
+    choose (fit card)
+    (choose (ltb channel channels) (toldOf (getD (card .memory) channel 0)) (Refused rangeUnknown))
+    (Refused cardUnfit)
+
+-- document 01's number of each case
+abbrev pub numberOf : Governor → ℕ
+numberOf (Degrees d) = answered
+numberOf Fault = probeFault
+numberOf (Refused number) = number
+
+-- the values of each case: the f32's bits, or none
+abbrev pub valuesOf : Governor → List ℕ
+valuesOf (Degrees d) = toBits binary32 d ∷ []
+valuesOf Fault = []
+valuesOf (Refused number) = []

@@ -1,0 +1,91 @@
+-- Where each entry of document 01, "What the card holds", stands in the lent tables.
+use Prim.Native.Nat.{ℕ, _+_, _*_}
+use mathlib.Core.List.{List}
+
+-- the card's tables
+pub record Card : Type 0 where
+  -- the numbers, a word each; a signed one in two's complement
+  pub words : List ℕ
+  -- Datalink memory, whose first bytes are the probe codes, a channel each
+  pub memory : List ℕ
+  -- the pending change
+  pub pending : List ℕ
+
+abbrev pub cardOf : List ℕ → List ℕ → List ℕ → Card
+cardOf words memory pending = record { words = words; memory = memory; pending = pending }
+
+-- the words: addresses
+abbrev pub iaAt : ℕ
+iaAt = 0
+
+abbrev pub lecomAddressAt : ℕ
+lecomAddressAt = 1
+
+abbrev pub loveAddressAt : ℕ
+loveAddressAt = 2
+
+-- Love parameters SP1, SP2, ALLO, ALHI
+abbrev pub loveAt : ℕ
+loveAt = 3
+
+abbrev pub loveCount : ℕ
+loveCount = 4
+
+-- LucidControl fan demands, a channel each
+abbrev pub demandsAt : ℕ
+demandsAt = loveAt + loveCount
+
+abbrev pub channels : ℕ
+channels = 4
+
+-- LucidControl parameters 1110h and 1120h, channel by channel, and then their saved copies in the same order
+abbrev pub parametersAt : ℕ
+parametersAt = demandsAt + channels
+
+abbrev pub parameterCount : ℕ
+parameterCount = 2 * channels
+
+abbrev pub keptAt : ℕ
+keptAt = parametersAt + parameterCount
+
+-- LECOM registers in three copies
+abbrev pub registers : ℕ
+registers = 96
+
+abbrev pub bufferAt : ℕ
+bufferAt = keptAt + parameterCount
+
+abbrev pub operationalAt : ℕ
+operationalAt = bufferAt + registers
+
+abbrev pub savedAt : ℕ
+savedAt = operationalAt + registers
+
+abbrev pub wordCount : ℕ
+wordCount = savedAt + registers
+
+-- Datalink memory: its number of bytes
+abbrev pub memorySize : ℕ
+memorySize = 4096
+
+-- the pending change: its kind, then NUM, low address, high address and data as in its frame
+abbrev pub kindAt : ℕ
+kindAt = 0
+
+abbrev pub numAt : ℕ
+numAt = 1
+
+abbrev pub lowAddressAt : ℕ
+lowAddressAt = 2
+
+abbrev pub highAddressAt : ℕ
+highAddressAt = 3
+
+abbrev pub dataAt : ℕ
+dataAt = 4
+
+abbrev pub dataMost : ℕ
+dataMost = 32
+
+abbrev pub pendingSize : ℕ
+pendingSize = dataAt + dataMost

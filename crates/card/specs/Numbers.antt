@@ -1,0 +1,55 @@
+-- Document 01, "Numbers returned".
+use Prim.Native.Nat.{ℕ}
+
+-- done, answered
+abbrev pub answered : ℕ
+answered = 0
+
+-- done, silent
+abbrev pub done : ℕ
+done = 1
+
+-- from here on a number is a refusal
+abbrev pub foreignAddress : ℕ
+foreignAddress = 2
+
+abbrev pub frameForm : ℕ
+frameForm = 3
+
+abbrev pub checkCharacter : ℕ
+checkCharacter = 4
+
+abbrev pub commandUnknown : ℕ
+commandUnknown = 5
+
+-- register, channel or range unknown
+abbrev pub rangeUnknown : ℕ
+rangeUnknown = 6
+
+-- value or option outside
+abbrev pub valueOutside : ℕ
+valueOutside = 7
+
+abbrev pub readOnly : ℕ
+readOnly = 8
+
+abbrev pub probeFault : ℕ
+probeFault = 9
+
+abbrev pub nothingPending : ℕ
+nothingPending = 10
+
+-- output buffer too short
+abbrev pub bufferShort : ℕ
+bufferShort = 11
+
+abbrev pub cardUnfit : ℕ
+cardUnfit = 12
+
+-- image not of its length
+abbrev pub imageLength : ℕ
+imageLength = 13
+
+-- image padding not zero
+abbrev pub imagePadding : ℕ
+imagePadding = 14

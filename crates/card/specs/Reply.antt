@@ -1,0 +1,58 @@
+-- What an entry gives, and what its contract says of it.
+use Prim.Native.Nat.{ℕ, _≤_}
+use mathlib.Core.Path.{_≡_}
+use mathlib.Core.List.{List, []}
+use lib.Dec.{leb}
+use lib.ListN.{length}
+use Rattle.wire.specs.Choose.{choose}
+use Rattle.wire.specs.Buffer.{overlay}
+use Rattle.card.specs.Numbers.{foreignAddress, bufferShort, cardUnfit}
+use Rattle.card.specs.Layout.{Card}
+use Rattle.card.specs.Tables.{fit}
+
+-- the number returned, the answer's bytes and the card as it then stands
+pub record Reply : Type 0 where
+  pub number : ℕ
+  pub bytes : List ℕ
+  pub card : Card
+
+-- a number with no wire bytes
+abbrev pub silent : ℕ → Card → Reply
+silent number card = record { number = number; bytes = []; card = card }
+
+-- a number with wire bytes
+abbrev pub sent : ℕ → List ℕ → Card → Reply
+sent number bytes card = record { number = number; bytes = bytes; card = card }
+
+-- a dialect's answer buffer has at least this many bytes, else 11
+abbrev pub roomLeast : ℕ
+roomLeast = 38
+
+-- "Number 12 comes first, then 11, .. then the dialect's order": room is the answer buffer's length, least what the entry needs
+unfoldable pub shell : ℕ → Card → ℕ → Reply → Reply
+shell least card room reply = choose (fit card) (choose (leb least room) reply (silent bufferShort card)) (silent cardUnfit card)
+
+-- an entry with no answer buffer: 12 first
+unfoldable pub guarded : Card → Reply → Reply
+guarded card reply = choose (fit card) reply (silent cardUnfit card)
+
+-- "Numbers 2 to 14 change no table"
+pub record Keeps (card : Card) (reply : Reply) : Type 0 where
+  pub kept : foreignAddress ≤ reply .number → reply .card ≡ card
+
+-- an entry gave this reply: the number, the answer's length, the whole answer buffer and each table
+pub record Gave (reply : Reply) (out : List ℕ) (number len : ℕ) (words memory pending out′ : List ℕ) : Type 0 where
+  pub numbered : number ≡ reply .number
+  pub measured : len ≡ length (reply .bytes)
+  pub written : out′ ≡ overlay (reply .bytes) out
+  pub worded : words ≡ reply .card .words
+  pub remembered : memory ≡ reply .card .memory
+  pub pended : pending ≡ reply .card .pending
+
+-- an entry with no answer buffer gave this reply: no wire bytes, the number and each table
+pub record Did (reply : Reply) (number : ℕ) (words memory pending : List ℕ) : Type 0 where
+  pub quiet : reply .bytes ≡ []
+  pub numbered : number ≡ reply .number
+  pub worded : words ≡ reply .card .words
+  pub remembered : memory ≡ reply .card .memory
+  pub pended : pending ≡ reply .card .pending

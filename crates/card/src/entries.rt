@@ -1,0 +1,83 @@
+// The entries that set a probe code and restart.
+use crate::fitness::DEMAND_MOST;
+use crate::fitness::NO_CHANGE;
+use crate::fitness::is_fit;
+use crate::layout::BUFFER;
+use crate::layout::CHANNELS;
+use crate::layout::DEMANDS;
+use crate::layout::KEPT;
+use crate::layout::KIND;
+use crate::layout::OPERATIONAL;
+use crate::layout::PARAMETER_COUNT;
+use crate::layout::PARAMETERS;
+use crate::layout::REGISTERS;
+use crate::layout::SAVED;
+use crate::numbers::CARD_UNFIT;
+use crate::numbers::DONE;
+use crate::numbers::RANGE_UNKNOWN;
+use crate::probe::FAULT_CODE;
+ghost use mathlib.Core.Path.{_≡_};
+ghost use lib.ListN.{length};
+ghost use Rattle.card.specs.Layout.{cardOf, wordCount, memorySize};
+ghost use Rattle.card.specs.Entries.{setCode, restart, fullDemands, keptParameters, savedRegisters, faulted};
+ghost use Rattle.card.specs.Reply.{Did};
+
+// Sets the code of a probe. Words and the pending change are lent for the test of fitness only.
+pub fn set_code(words: &[u32], memory: &mut [u8], pending: &[u8], channel: u32, code: u8) -> u8
+    ensures { λ r. ⌜ Did (setCode (cardOf (now (words .entry)) (now (memory .entry)) (now (pending .entry))) channel code) r (now (words .entry)) (now (memory .exit)) (now (pending .entry)) ⌝ }
+{
+    if !is_fit(words, memory, pending) {
+        return CARD_UNFIT;
+    }
+    if CHANNELS as u32 <= channel {
+        return RANGE_UNKNOWN;
+    }
+    memory[channel as usize] = code;
+    DONE
+}
+
+// Buffer and operational become saved, and parameters their saved copy.
+fn restore(words: &mut [u32])
+    requires { ⌜ length (now words) ≡ wordCount ⌝ }
+    ensures { λ _. ⌜ now (words .exit) ≡ keptParameters (savedRegisters (now (words .entry))) ⌝ }
+{
+    wire::move_words(words, SAVED, BUFFER, REGISTERS);
+    wire::move_words(words, SAVED, OPERATIONAL, REGISTERS);
+    wire::move_words(words, KEPT, PARAMETERS, PARAMETER_COUNT);
+}
+
+// Every demand becomes full.
+fn fill_demands(words: &mut [u32])
+    requires { ⌜ length (now words) ≡ wordCount ⌝ }
+    ensures { λ _. ⌜ now (words .exit) ≡ fullDemands (now (words .entry)) ⌝ }
+{
+    words[DEMANDS] = DEMAND_MOST;
+    words[DEMANDS + 1] = DEMAND_MOST;
+    words[DEMANDS + 2] = DEMAND_MOST;
+    words[DEMANDS + 3] = DEMAND_MOST;
+}
+
+// Every probe code becomes a fault.
+fn fault_probes(memory: &mut [u8])
+    requires { ⌜ length (now memory) ≡ memorySize ⌝ }
+    ensures { λ _. ⌜ now (memory .exit) ≡ faulted (now (memory .entry)) ⌝ }
+{
+    memory[0] = FAULT_CODE;
+    memory[1] = FAULT_CODE;
+    memory[2] = FAULT_CODE;
+    memory[3] = FAULT_CODE;
+}
+
+// Restart, as the card does it when its supply comes back.
+pub fn restart_card(words: &mut [u32], memory: &mut [u8], pending: &mut [u8]) -> u8
+    ensures { λ r. ⌜ Did (restart (cardOf (now (words .entry)) (now (memory .entry)) (now (pending .entry)))) r (now (words .exit)) (now (memory .exit)) (now (pending .exit)) ⌝ }
+{
+    if !is_fit(words, memory, pending) {
+        return CARD_UNFIT;
+    }
+    restore(words);
+    fill_demands(words);
+    fault_probes(memory);
+    pending[KIND] = NO_CHANGE;
+    DONE
+}

@@ -1,0 +1,203 @@
+// Number 12: whether lent tables keep to document 01, "What the card holds".
+use crate::layout::BUFFER;
+use crate::layout::DATA_MOST;
+use crate::layout::DEMANDS;
+use crate::layout::HIGH_ADDRESS;
+use crate::layout::IA;
+use crate::layout::KIND;
+use crate::layout::LECOM_ADDRESS;
+use crate::layout::LOVE;
+use crate::layout::LOVE_ADDRESS;
+use crate::layout::LOW_ADDRESS;
+use crate::layout::MEMORY;
+use crate::layout::NUM;
+use crate::layout::PARAMETERS;
+use crate::layout::PENDING;
+use crate::layout::WORDS;
+ghost use mathlib.Core.Path.{_≡_};
+ghost use Prim.Native.Nat.{_<_};
+ghost use lib.ListN.{length};
+ghost use Rattle.card.specs.Layout.{cardOf, wordCount, pendingSize};
+ghost use Rattle.card.specs.Tables.{inSpan, allIn, inMemory, namesReadOnly, named, numRight, echoable, addressOf, fitPending, fitAddresses, fitParameters, fitWords, fit};
+
+// Datalink addresses: the first, the one after the last, and the first writable one.
+pub const MEMORY_START: u32 = 0x1000;
+
+pub const MEMORY_END: u32 = MEMORY_START + MEMORY as u32;
+
+pub const WRITABLE_START: u32 = 0x1010;
+
+// Kinds of a pending change.
+pub const NO_CHANGE: u8 = 0;
+
+pub const CHANGE: u8 = 1;
+
+pub const CHANGE_BITS: u8 = 2;
+
+// Ranges. A lower end above the upper one is a negative number in two's complement.
+pub const IA_MOST: u32 = 31;
+
+pub const LECOM_LEAST: u32 = 11;
+
+pub const LECOM_MOST: u32 = 99;
+
+pub const LOVE_ADDRESS_MOST: u32 = 0x3FF;
+
+pub const LOVE_LEAST: u32 = 0xFFFF_FFFF - 399;
+
+pub const LOVE_MOST: u32 = 870;
+
+pub const DEMAND_MOST: u32 = 65_535;
+
+pub const CYCLE_LEAST: u32 = 1_000;
+
+pub const CYCLE_MOST: u32 = 60_000_000;
+
+pub const FLOOR_MOST: u32 = 65_535;
+
+pub const REGISTER_LEAST: u32 = 0xFFFF_FFFF - 999_998;
+
+pub const REGISTER_MOST: u32 = 999_999;
+
+// Whether x lies from lo to hi.
+pub fn in_span(x: u32, lo: u32, hi: u32) -> bool
+    ensures { λ r. ⌜ r ≡ inSpan lo hi x ⌝ }
+{
+    if lo <= hi {
+        return (lo <= x) & (x <= hi);
+    }
+    (lo <= x) | (x <= hi)
+}
+
+// Whether every word of s does. No early exit: so the loop runs on several words at once.
+pub fn all_in(s: &[u32], lo: u32, hi: u32) -> bool
+    ensures { λ r. ⌜ r ≡ allIn lo hi (now (s .entry)) ⌝ }
+{
+    let mut ok = true;
+    let mut i = 0;
+    while i < s.len() {
+        let here = in_span(s[i], lo, hi);
+        ok = ok & here;
+        i += 1;
+    }
+    ok
+}
+
+// Whether the n bytes named from an address lie in Datalink memory.
+pub fn in_memory(at: u16, n: u8) -> bool
+    ensures { λ r. ⌜ r ≡ inMemory at n ⌝ }
+{
+    let start = at as u32;
+    let end = start + n as u32;
+    (MEMORY_START <= start) & (end <= MEMORY_END)
+}
+
+// Whether the n bytes named from an address hold a read-only one.
+pub fn names_read_only(at: u16, n: u8) -> bool
+    ensures { λ r. ⌜ r ≡ namesReadOnly at n ⌝ }
+{
+    let start = at as u32;
+    (n != 0) & (start < WRITABLE_START)
+}
+
+// How many bytes a change of num data bytes names.
+pub fn bytes_named(kind: u8, num: u8) -> u8
+    ensures { λ r. ⌜ r ≡ named kind num ⌝ }
+{
+    if kind == CHANGE_BITS {
+        return num / 2;
+    }
+    num
+}
+
+// Whether NUM is right for the kind of change.
+pub fn num_right(kind: u8, num: u8) -> bool
+    ensures { λ r. ⌜ r ≡ numRight kind num ⌝ }
+{
+    (num <= DATA_MOST as u8) & ((kind != CHANGE_BITS) | (num % 2 == 0))
+}
+
+// Whether the Datalink order would have echoed this change.
+fn is_echoable(kind: u8, num: u8, at: u16, n: u8) -> bool
+    ensures { λ r. ⌜ r ≡ echoable kind num at n ⌝ }
+{
+    let right = num_right(kind, num);
+    let inside = in_memory(at, n);
+    let fixed = names_read_only(at, n);
+    (kind <= CHANGE_BITS) & (right & (inside & !fixed))
+}
+
+// An address from its two bytes.
+pub fn address(low: u8, high: u8) -> u16
+    ensures { λ r. ⌜ r ≡ addressOf low high ⌝ }
+{
+    low as u16 + 256 * (high as u16)
+}
+
+// Whether the pending change is none, or as it was echoed.
+fn fit_pending(pending: &[u8]) -> bool
+    requires { ⌜ length (now pending) ≡ pendingSize ⌝ }
+    ensures { λ r. ⌜ r ≡ fitPending (now (pending .entry)) ⌝ }
+{
+    let kind = pending[KIND];
+    let num = pending[NUM];
+    let at = address(pending[LOW_ADDRESS], pending[HIGH_ADDRESS]);
+    let echoed = is_echoable(kind, num, at, bytes_named(kind, num));
+    (kind == NO_CHANGE) | echoed
+}
+
+// Whether the three addresses are in their ranges.
+fn fit_addresses(ia: u32, lecom: u32, love: u32) -> bool
+    ensures { λ r. ⌜ r ≡ fitAddresses ia lecom love ⌝ }
+{
+    let lecom_fit = (LECOM_LEAST <= lecom) & ((lecom <= LECOM_MOST) & (lecom % 10 != 0));
+    let love_fit = (love <= LOVE_ADDRESS_MOST) & (love % 256 != 0);
+    (ia <= IA_MOST) & (lecom_fit & love_fit)
+}
+
+// Whether pairs of parameters 1110h and 1120h are in their ranges.
+fn fit_parameters(s: &[u32]) -> bool
+    requires { ⌜ length (now s) < 1024 ⌝ }
+    ensures { λ r. ⌜ r ≡ fitParameters (now (s .entry)) ⌝ }
+{
+    let mut ok = true;
+    let mut i = 0;
+    while i + 1 < s.len() {
+        let cycle = in_span(s[i], CYCLE_LEAST, CYCLE_MOST);
+        let floor = in_span(s[i + 1], 0, FLOOR_MOST);
+        ok = ok & (cycle & floor);
+        i += 2;
+    }
+    ok
+}
+
+// Whether every word is in its range.
+fn fit_words(words: &[u32]) -> bool
+    requires { ⌜ length (now words) ≡ wordCount ⌝ }
+    ensures { λ r. ⌜ r ≡ fitWords (now (words .entry)) ⌝ }
+{
+    let addresses = fit_addresses(words[IA], words[LECOM_ADDRESS], words[LOVE_ADDRESS]);
+    let love = all_in(&words[LOVE..DEMANDS], LOVE_LEAST, LOVE_MOST);
+    let demands = all_in(&words[DEMANDS..PARAMETERS], 0, DEMAND_MOST);
+    let parameters = fit_parameters(&words[PARAMETERS..BUFFER]);
+    let registers = all_in(&words[BUFFER..WORDS], REGISTER_LEAST, REGISTER_MOST);
+    addresses & (love & (demands & (parameters & registers)))
+}
+
+// The one test of number 12, which every entry makes first.
+pub fn is_fit(words: &[u32], memory: &[u8], pending: &[u8]) -> bool
+    ensures { λ r. ⌜ r ≡ fit (cardOf (now (words .entry)) (now (memory .entry)) (now (pending .entry))) ⌝ }
+{
+    if words.len() != WORDS {
+        return false;
+    }
+    if memory.len() != MEMORY {
+        return false;
+    }
+    if pending.len() != PENDING {
+        return false;
+    }
+    let entries = fit_words(words);
+    let change = fit_pending(pending);
+    entries & change
+}

@@ -1,0 +1,29 @@
+// The probe reading: the one way from a code to a temperature.
+use std::num::wrapping_sub_u32;
+ghost use mathlib.Core.Path.{_≡_};
+ghost use Rattle.card.specs.Probe.{readingOf};
+
+pub const FAULT_CODE: u8 = 255;
+
+const TENTHS_PER_CODE: u32 = 5;
+
+const TENTHS_BELOW: u32 = 400;
+
+// Tenths of a degree, in two's complement.
+pub struct Tenths(pub u32);
+
+// What a probe's code says.
+pub enum Reading {
+    Temperature(Tenths),
+    Fault,
+}
+
+pub fn read_code(code: u8) -> Reading
+    ensures { λ r. ⌜ r ≡ readingOf code ⌝ }
+{
+    if code == FAULT_CODE {
+        return Reading::Fault;
+    }
+    let scaled = TENTHS_PER_CODE * (code as u32);
+    Reading::Temperature(Tenths(wrapping_sub_u32(scaled, TENTHS_BELOW)))
+}

@@ -1,0 +1,69 @@
+//! The console's calls, and which of them a program lists in its `help` line.
+
+/// First words of all calls (docs/CONSOLE.md, "Calls").
+pub const CALLS: [&str; 14] = [
+    "probe", "restart", "governor", "datalink", "lecom", "love", "lucid", "save", "load",
+    "request", "step", "poke", "peek", "help",
+];
+
+/// What stands before the list in a `help` line, and between two calls.
+const LIST_MARK: &str = "calls: ";
+const LIST_SEPARATOR: &str = "; ";
+
+/// The calls that take part in the scripts.
+pub struct Listed {
+    usages: Vec<String>,
+}
+
+impl Listed {
+    /// Reads a `help` line.
+    pub fn read(help: &str) -> Result<Self, String> {
+        let list = help
+            .strip_prefix(LIST_MARK)
+            .ok_or_else(|| format!("not a list of calls: {help}"))?;
+        Ok(Self {
+            usages: list.split(LIST_SEPARATOR).map(str::to_owned).collect(),
+        })
+    }
+
+    /// Whether scripts may use a call.
+    pub fn has(&self, call: &str) -> bool {
+        self.usages
+            .iter()
+            .any(|usage| usage.split(' ').next() == Some(call))
+    }
+
+    /// Whether these usages are all among the other's, in the same order.
+    pub fn is_within(&self, other: &Self) -> bool {
+        let mut others = other.usages.iter();
+        self.usages
+            .iter()
+            .all(|usage| others.any(|candidate| candidate == usage))
+    }
+}
+
+#[cfg(test)]
+mod tests {
+    use super::*;
+
+    #[test]
+    fn a_help_line_lists_its_calls() {
+        let listed = Listed::read("calls: probe CHANNEL CODE; restart; help").unwrap();
+        assert!(listed.has("probe"));
+        assert!(listed.has("restart"));
+        assert!(!listed.has("CHANNEL"));
+        assert!(!listed.has("love"));
+        assert!(Listed::read("error unknown call").is_err());
+    }
+
+    #[test]
+    fn fewer_calls_in_the_same_order_lie_within() {
+        let all = Listed::read("calls: probe CHANNEL CODE; restart; help").unwrap();
+        let read = |help| Listed::read(help).unwrap();
+        assert!(read("calls: restart; help").is_within(&all));
+        assert!(read("calls: probe CHANNEL CODE; restart; help").is_within(&all));
+        assert!(!read("calls: help; restart").is_within(&all));
+        assert!(!read("calls: probe CHANNEL").is_within(&all));
+        assert!(!read("calls: restart; restart").is_within(&all));
+    }
+}

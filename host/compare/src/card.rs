@@ -1,0 +1,153 @@
+//! The card's tables as pokes and peeks see them: places, ranges and what an entry can hold.
+
+use crate::rng::Rng;
+
+/// The table of all Datalink bytes; every other table is small.
+pub const MEMORY: &str = "memory";
+/// Entries of the table of Datalink bytes.
+pub const MEMORY_PLACES: usize = 4096;
+/// The first Datalink address, the first writable one, and the first past the memory.
+pub const MEMORY_START: u16 = 0x1000;
+pub const WRITABLE_START: u16 = 0x1010;
+pub const MEMORY_END: u16 = 0x2000;
+/// The small tables, in the order in which scripts peek them.
+pub const SMALL_TABLES: [&str; 10] = [
+    "address",
+    "probe",
+    "buffer",
+    "operational",
+    "saved",
+    "love",
+    "demand",
+    "parameter",
+    "kept",
+    "pending",
+];
+/// LECOM registers in each copy.
+pub const REGISTERS: usize = 96;
+/// LucidControl parameters of all channels.
+pub const PARAMETERS: usize = 8;
+/// Channels of probes and fan demands.
+pub const CHANNELS: usize = 4;
+/// Love parameters.
+pub const LOVE_PARAMETERS: usize = 4;
+
+/// Ranges of document 01, "What the card holds".
+pub const IA_MOST: i64 = 31;
+pub const LOVE_ADDRESS_MOST: i64 = 0x3FF;
+pub const REGISTER_RANGE: (i64, i64) = (-999_999, 999_999);
+pub const LOVE_RANGE: (i64, i64) = (-400, 870);
+pub const DEMAND_RANGE: (i64, i64) = (0, 65_535);
+pub const PARAMETER_RANGES: [(i64, i64); 2] = [(1_000, 60_000_000), (0, 65_535)];
+
+/// Probe codes worth a look: both ends, zero degrees less one step, five degrees, the fault and its neighbour.
+pub const TELLING_CODES: [u8; 7] = [0, 1, 78, 80, 90, 254, 255];
+
+/// One entry of a table.
+#[derive(Clone, Copy, PartialEq, Eq, Debug)]
+pub struct Place {
+    /// The table's name.
+    pub table: &'static str,
+    /// Which entry.
+    pub place: usize,
+}
+
+/// Every entry that document 01 gives a range, table by table.
+pub fn ranged_places() -> Vec<Place> {
+    let tables = [
+        ("address", 3),
+        ("buffer", REGISTERS),
+        ("operational", REGISTERS),
+        ("saved", REGISTERS),
+        ("love", LOVE_PARAMETERS),
+        ("demand", CHANNELS),
+        ("parameter", PARAMETERS),
+        ("kept", PARAMETERS),
+    ];
+    tables
+        .iter()
+        .flat_map(|&(table, places)| (0..places).map(move |place| Place { table, place }))
+        .collect()
+}
+
+impl Place {
+    /// The lowest and highest fit value.
+    fn range(self) -> (i64, i64) {
+        match (self.table, self.place) {
+            ("address", 0) => (0, IA_MOST),
+            ("address", 1) => (11, 99),
+            ("address", _) => (1, LOVE_ADDRESS_MOST),
+            ("love", _) => LOVE_RANGE,
+            ("demand", _) => DEMAND_RANGE,
+            ("parameter" | "kept", place) => PARAMETER_RANGES[place % 2],
+            _ => REGISTER_RANGE,
+        }
+    }
+
+    /// The lowest and highest value that can be poked.
+    fn holds(self) -> (i64, i64) {
+        match self.table {
+            "buffer" | "operational" | "saved" | "love" => {
+                (i64::from(i32::MIN), i64::from(i32::MAX))
+            }
+            _ => (0, i64::from(u32::MAX)),
+        }
+    }
+
+    /// A value inside its range.
+    pub fn fit_value(self, rng: &mut Rng) -> i64 {
+        match (self.table, self.place) {
+            ("address", 1) => lecom_address(rng),
+            ("address", 2) => love_address(rng),
+            _ => {
+                let (lowest, highest) = self.range();
+                rng.between(lowest, highest)
+            }
+        }
+    }
+
+    /// Any value that can be poked: range ends, one past them, the type's ends, inside and wild.
+    pub fn any_value(self, rng: &mut Rng) -> i64 {
+        let (lowest, highest) = self.range();
+        let (least, most) = self.holds();
+        let inner = match (self.table, self.place) {
+            ("address", 1) => 10 * rng.between(0, 11),
+            ("address", 2) => 0x100 * rng.between(0, 5),
+            _ => rng.between(lowest, highest),
+        };
+        let near = rng.between(2, 100);
+        let choices = [
+            lowest,
+            highest,
+            lowest - 1,
+            highest + 1,
+            lowest - near,
+            highest + near,
+            least,
+            most,
+            inner,
+            self.fit_value(rng),
+            rng.between(least, most),
+        ];
+        rng.pick(&choices).clamp(least, most)
+    }
+}
+
+/// A LECOM address: 11 to 99 without a zero figure.
+pub fn lecom_address(rng: &mut Rng) -> i64 {
+    10 * rng.between(1, 9) + rng.between(1, 9)
+}
+
+/// A Love address: 1 to 3FFh, low two hex figures not 00.
+pub fn love_address(rng: &mut Rng) -> i64 {
+    0x100 * rng.between(0, 3) + rng.between(1, 0xFF)
+}
+
+/// A probe code, often a telling one.
+pub fn probe_code(rng: &mut Rng) -> u8 {
+    if rng.chance(50) {
+        rng.pick(&TELLING_CODES)
+    } else {
+        rng.byte()
+    }
+}

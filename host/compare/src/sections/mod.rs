@@ -1,0 +1,158 @@
+//! The sections: each writes scripts about one part of the card, scene by scene.
+
+mod datalink;
+mod dialect;
+mod exchanges;
+mod image;
+mod lecom;
+mod love;
+mod lucid;
+mod tables;
+mod unreadable;
+
+use crate::calls::Listed;
+use crate::entries::Entry;
+use crate::rng::Rng;
+use crate::writer::{Line, Writer};
+
+/// Calls of one script at most; a script is one run of both programs.
+pub const SCRIPT_CALLS: usize = 2000;
+
+/// One part of what is compared.
+pub struct Section {
+    /// Its name for `--section`.
+    pub name: &'static str,
+    /// Calls without which it has nothing to say.
+    needs: &'static [&'static str],
+    /// Entries whose every number comes up in it.
+    pub entries: &'static [Entry],
+    /// Whether its scripts depend on what was answered; the exchange clauses are checked on such scripts.
+    pub is_followed: bool,
+    /// Writes the next scene.
+    scene: fn(&mut Writer),
+    /// Writes what stands at a script's end.
+    close: fn(&mut Writer),
+}
+
+impl Section {
+    /// Whether the listed calls suffice.
+    pub fn is_possible(&self, listed: &Listed) -> bool {
+        self.needs.iter().all(|call| listed.has(call))
+    }
+}
+
+/// All sections, in the order of their turns.
+pub const SECTIONS: [Section; 8] = [
+    Section {
+        name: "tables",
+        needs: &[],
+        entries: &[Entry::Probe, Entry::Restart, Entry::Governor],
+        is_followed: false,
+        scene: tables::scene,
+        close: |_| {},
+    },
+    Section {
+        name: "unreadable",
+        needs: &[],
+        entries: &[],
+        is_followed: false,
+        scene: unreadable::scene,
+        close: unreadable::close,
+    },
+    Section {
+        name: "datalink",
+        needs: &["datalink"],
+        entries: &[Entry::Datalink],
+        is_followed: false,
+        scene: datalink::scene,
+        close: |_| {},
+    },
+    Section {
+        name: "lecom",
+        needs: &["lecom"],
+        entries: &[Entry::Lecom],
+        is_followed: false,
+        scene: lecom::scene,
+        close: |_| {},
+    },
+    Section {
+        name: "love",
+        needs: &["love"],
+        entries: &[Entry::Love],
+        is_followed: false,
+        scene: love::scene,
+        close: |_| {},
+    },
+    Section {
+        name: "lucid",
+        needs: &["lucid"],
+        entries: &[Entry::Lucid],
+        is_followed: false,
+        scene: lucid::scene,
+        close: |_| {},
+    },
+    Section {
+        name: "image",
+        needs: &["load"],
+        entries: &[Entry::Save, Entry::Load],
+        is_followed: false,
+        scene: image::scene,
+        close: |_| {},
+    },
+    Section {
+        name: "exchanges",
+        needs: &["datalink", "request", "step", "poke", "peek"],
+        entries: &[Entry::Step],
+        is_followed: true,
+        scene: exchanges::scene,
+        close: |_| {},
+    },
+];
+
+/// Writes a section's scripts one after another.
+pub struct Scribe<'a> {
+    /// The section.
+    pub section: &'a Section,
+    listed: &'a Listed,
+    seed: u64,
+    scripts: u64,
+    scenes: usize,
+    /// Calls still to be written.
+    left: usize,
+}
+
+impl<'a> Scribe<'a> {
+    /// A section's scripts of `calls` calls in all.
+    pub fn new(section: &'a Section, listed: &'a Listed, seed: u64, calls: usize) -> Self {
+        Self {
+            section,
+            listed,
+            seed,
+            scripts: 0,
+            scenes: 0,
+            left: calls,
+        }
+    }
+
+    /// The next script, or none if all calls were written.
+    pub fn script(&mut self) -> Option<Vec<Line>> {
+        if self.left == 0 {
+            return None;
+        }
+        let rng = Rng::of_script(self.seed, self.section.name, self.scripts);
+        let mut writer = Writer::new(self.listed, rng);
+        if self.section.is_followed {
+            writer.follow();
+        }
+        let most = self.left.min(SCRIPT_CALLS);
+        while writer.calls() < most {
+            writer.turn = self.scenes;
+            (self.section.scene)(&mut writer);
+            self.scenes += 1;
+        }
+        (self.section.close)(&mut writer);
+        self.scripts += 1;
+        self.left = self.left.saturating_sub(writer.calls());
+        Some(writer.finish())
+    }
+}

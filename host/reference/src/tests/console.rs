@@ -1,0 +1,138 @@
+use crate::console::run;
+
+/// What a whole input writes.
+fn output(input: &str) -> String {
+    let mut written = vec![];
+    run(&mut input.as_bytes(), &mut written).expect("memory takes all output");
+    String::from_utf8(written).expect("output is ASCII")
+}
+
+/// docs/CONSOLE.md, its first example.
+#[test]
+fn first_example() {
+    assert_eq!(output("probe 0 90\ngovernor 0\n"), "1\n0 40A00000\n");
+}
+
+#[test]
+fn lines_that_write_nothing() {
+    assert_eq!(output(""), "");
+    assert_eq!(output("\n   \n# probe\n  "), "");
+    assert_eq!(output(" # \n"), "error unknown call\n");
+    assert_eq!(output("  restart  "), "1\n");
+}
+
+#[test]
+fn lines_that_cannot_be_read() {
+    assert_eq!(output("Probe 0 0"), "error unknown call\n");
+    assert_eq!(output("restart\r"), "error unknown call\n");
+    for line in [
+        "probe 0",
+        "probe 0 256",
+        "probe 0 -0",
+        "probe 0 00000000001",
+        "probe 0 1 2",
+        "probe\t0 1",
+        "probe",
+    ] {
+        let error = if line.contains('\t') {
+            "unknown call"
+        } else {
+            "expected probe CHANNEL CODE"
+        };
+        assert_eq!(output(line), format!("error {error}\n"));
+    }
+    assert_eq!(output("probe 0 0000000001"), "1\n");
+    assert_eq!(output("love 1025"), "error expected love ROOM BYTES\n");
+    assert_eq!(output("love 38 A"), "error expected love ROOM BYTES\n");
+    assert_eq!(output("love 38 0202"), "error expected love ROOM BYTES\n");
+    assert_eq!(output("step 38"), "error no request\n");
+    assert_eq!(output("step 38 /"), "error expected step ROOM BYTES\n");
+    let usage = "request change IA ADDRESS BYTES or request bits IA ADDRESS MASKS / STATES";
+    for line in [
+        "request",
+        "request x 1 2",
+        "request bits 1 2 00 00",
+        "request bits 1 2 / / 00",
+        "request change 1 2 /",
+    ] {
+        assert_eq!(output(line), format!("error expected {usage}\n"));
+    }
+}
+
+#[test]
+fn longest_line() {
+    let blank = " ".repeat(32_768 - "restart".len());
+    assert_eq!(output(&format!("{blank}restart\nrestart")), "1\n1\n");
+    let error = "error line longer than 32768 bytes\n1\n";
+    assert_eq!(output(&format!("{blank}restart \nrestart")), error);
+    assert_eq!(output(&format!("{}\nrestart", "0".repeat(200_000))), error);
+}
+
+#[test]
+fn dialects_with_their_room() {
+    assert_eq!(output("datalink 37"), "11\n");
+    assert_eq!(output("datalink 38"), "3\n");
+    assert_eq!(output("lecom 38 04 31 31 30 30 05"), "0 02 30 30 30 03 33\n");
+    assert_eq!(output("lucid 1024 46 00 40 00"), "9 D0 00\n");
+    assert_eq!(output("save 292"), "11\n");
+    let saved = output("save 293");
+    let bytes = saved.trim_end().strip_prefix("0 ").expect("number 0");
+    assert_eq!(output(&format!("load {bytes}\nload\nload {bytes} 00")), "1\n13\n13\n");
+}
+
+#[test]
+fn a_whole_exchange() {
+    let lines = "request bits 3 4112 F0 / 01\nstep 38\nstep 38 7E 23 02 10 10 f0 01 36\nstep 38\nstep 38\nstep 38\n";
+    let expected =
+        "ok\n0 open 7E C3 02 10 10 F0 01 D6\n0 open 7E 83\n0 open 7E E3 01 10 10 04\n1 unknown\n10 unknown\n";
+    assert_eq!(output(lines), expected);
+    let again = format!("{lines}request bits 3 4112 / 00\nstep 38\nrequest change 3 65535\nstep 37\nstep 38\n");
+    let more = "ok\n7 open\nok\n11 open\n0 open 7E A3 00 FF FF A1\n";
+    assert_eq!(output(&again), format!("{expected}{more}"));
+}
+
+#[test]
+fn poke_and_peek() {
+    assert_eq!(
+        output("peek address\npeek love\npeek demand"),
+        "3 11 50\n0 0 0 0\n65535 65535 65535 65535\n"
+    );
+    assert_eq!(
+        output("peek parameter\npeek kept"),
+        "1000000 0 1000000 0 1000000 0 1000000 0\n".repeat(2)
+    );
+    assert_eq!(
+        output("poke memory 1 7\npeek probe\npoke probe 1 8\ngovernor 1"),
+        "ok\n255 7 255 255\nok\n0 C2100000\n"
+    );
+    assert_eq!(output("poke saved 95 -2147483648\nrestart"), "ok\n12\n");
+    assert_eq!(
+        output("poke address 2 4294967295\nprobe 9 0\npeek address"),
+        "ok\n12\n3 11 4294967295\n"
+    );
+    for line in [
+        "saved 96 0",
+        "saved 0 2147483648",
+        "demand 0 4294967296",
+        "demand 0 -1",
+        "pending 35 0",
+        "x 0 0",
+    ] {
+        assert_eq!(
+            output(&format!("poke {line}")),
+            "error expected poke TABLE PLACE VALUE\n"
+        );
+    }
+    assert_eq!(output("peek x\npeek"), "error expected peek TABLE\n".repeat(2));
+    assert_eq!(output("peek pending"), "0\n");
+    let change = "poke pending 0 9\npoke pending 1 65535\npoke pending 2 2\npoke pending 3 5\npeek pending\nrestart";
+    assert_eq!(output(change), "ok\nok\nok\nok\n9 65535 2 5 0\n12\n");
+}
+
+#[test]
+fn help_lists_the_calls() {
+    let help = output("help");
+    assert!(help.starts_with("calls: probe CHANNEL CODE; restart; governor CHANNEL; datalink ROOM BYTES; "));
+    assert!(help.ends_with("; poke TABLE PLACE VALUE; peek TABLE; help\n"));
+    assert_eq!(help.matches("; ").count(), 14);
+}
