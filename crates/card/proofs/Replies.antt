@@ -13,7 +13,7 @@ use Rattle.wire.proofs.Buffers.{overlay-none}
 use Rattle.card.specs.Numbers.{bufferShort, cardUnfit}
 use Rattle.card.specs.Layout.{Card}
 use Rattle.card.specs.Tables.{fit}
-use Rattle.card.specs.Reply.{Reply, silent, shell, guarded, Keeps, Gave, Did}
+use Rattle.card.specs.Reply.{Reply, WordsReply, onWords, silent, shell, guarded, Keeps, Gave, GaveWords, Did}
 
 -- a number alone: nothing written, no table changed
 pub did-silent : (number : ℕ) (card : Card) → Did (silent number card) number (card .words) (card .memory) (card .pending)
@@ -40,6 +40,12 @@ gave-did r out d =
       remembered = d .remembered;
       pended = d .pended;
     }
+
+-- a reply over the words alone is one of the card
+pub gave-words : (card : Card) (r : WordsReply) (out : List ℕ) {number len : ℕ} {words out′ : List ℕ} → GaveWords r out number len words out′
+    → Gave (onWords card r) out number len words (card .memory) (card .pending) out′
+gave-words card r out g =
+    record { numbered = g .numbered; measured = g .measured; written = g .written; worded = g .worded; remembered = refl; pended = refl }
 
 module _ (least : ℕ) (card : Card) (out : List ℕ) (reply : Reply) where
   pub shell-unfit : fit card ≡ false → Gave (shell least card (length out) reply) out cardUnfit 0 (card .words) (card .memory) (card .pending) out

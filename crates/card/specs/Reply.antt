@@ -24,6 +24,17 @@ silent number card = record { number = number; bytes = []; card = card }
 abbrev pub sent : ℕ → List ℕ → Card → Reply
 sent number bytes card = record { number = number; bytes = bytes; card = card }
 
+-- a reply of a dialect that changes words alone: the number, the answer's bytes and the words as they then stand
+pub record WordsReply : Type 0 where
+  pub number : ℕ
+  pub bytes : List ℕ
+  pub words : List ℕ
+
+-- the same as a reply of the card
+abbrev pub onWords : Card → WordsReply → Reply
+onWords card reply =
+    record { number = reply .number; bytes = reply .bytes; card = record { words = reply .words; memory = card .memory; pending = card .pending } }
+
 -- a dialect's answer buffer has at least this many bytes, else 11
 abbrev pub roomLeast : ℕ
 roomLeast = 38
@@ -48,6 +59,13 @@ pub record Gave (reply : Reply) (out : List ℕ) (number len : ℕ) (words memor
   pub worded : words ≡ reply .card .words
   pub remembered : memory ≡ reply .card .memory
   pub pended : pending ≡ reply .card .pending
+
+-- a function that changes words alone gave this reply: the number, the answer's length, the whole answer buffer and the words
+pub record GaveWords (reply : WordsReply) (out : List ℕ) (number len : ℕ) (words out′ : List ℕ) : Type 0 where
+  pub numbered : number ≡ reply .number
+  pub measured : len ≡ length (reply .bytes)
+  pub written : out′ ≡ overlay (reply .bytes) out
+  pub worded : words ≡ reply .words
 
 -- an entry with no answer buffer gave this reply: no wire bytes, the number and each table
 pub record Did (reply : Reply) (number : ℕ) (words memory pending : List ℕ) : Type 0 where

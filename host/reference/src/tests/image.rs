@@ -75,12 +75,18 @@ fn padding_before_entries() {
 fn an_entry_outside_is_12() {
     let good = image_of(&Card::new());
     let card = Card::new();
-    let lecom_zero_figure = |image: &mut [u8]| image[1] ^= 0x10;
-    let love_zero = |image: &mut [u8]| (image[1], image[2]) = (0xB0, image[2] & 0x03);
-    let register = |image: &mut [u8]| (image[2], image[3]) = (image[2] | 0x03, 0xFF);
-    let parameter = |image: &mut [u8]| image[IMAGE - 8] = 0xFF;
-    let love_parameter = |image: &mut [u8]| image[IMAGE - 2] = 0xFF;
-    let changes: [&dyn Fn(&mut [u8]); 5] = [&lecom_zero_figure, &love_zero, &register, &parameter, &love_parameter];
+    let changes: [fn(&mut [u8]); 5] = [
+        // LECOM 10, with a zero figure
+        |image| image[1] ^= 0x10,
+        // Love 0
+        |image| (image[1], image[2]) = (0xB0, image[2] & 0x03),
+        // register 00h
+        |image| (image[2], image[3]) = (image[2] | 0x03, 0xFF),
+        // 1120h of channel 3
+        |image| image[IMAGE - 10] = 0xFF,
+        // ALHI
+        |image| image[IMAGE - 3] |= 0x01,
+    ];
     for (row, change) in changes.iter().enumerate() {
         let mut image = good.clone();
         change(&mut image);
