@@ -60,6 +60,11 @@ pub record Gave (reply : Reply) (out : List ℕ) (number len : ℕ) (words memor
   pub remembered : memory ≡ reply .card .memory
   pub pended : pending ≡ reply .card .pending
 
+-- an answer was written at the front of a buffer: its length and the whole buffer
+pub record Wrote (bytes out : List ℕ) (len : ℕ) (out′ : List ℕ) : Type 0 where
+  pub measured : len ≡ length bytes
+  pub written : out′ ≡ overlay bytes out
+
 -- a function that changes words alone gave this reply: the number, the answer's length, the whole answer buffer and the words
 pub record GaveWords (reply : WordsReply) (out : List ℕ) (number len : ℕ) (words out′ : List ℕ) : Type 0 where
   pub numbered : number ≡ reply .number

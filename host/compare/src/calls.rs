@@ -16,12 +16,10 @@ pub struct Listed {
 }
 
 impl Listed {
-    /// Reads a `help` line.
-    pub fn read(help: &str) -> Result<Self, String> {
-        let list = help
-            .strip_prefix(LIST_MARK)
-            .ok_or_else(|| format!("not a list of calls: {help}"))?;
-        Ok(Self {
+    /// Reads a `help` line with its line feed; none if it is no list of calls.
+    pub fn read(help: &str) -> Option<Self> {
+        let list = help.strip_prefix(LIST_MARK)?.strip_suffix('\n')?;
+        Some(Self {
             usages: list.split(LIST_SEPARATOR).map(str::to_owned).collect(),
         })
     }
@@ -48,22 +46,22 @@ mod tests {
 
     #[test]
     fn a_help_line_lists_its_calls() {
-        let listed = Listed::read("calls: probe CHANNEL CODE; restart; help").unwrap();
+        let listed = Listed::read("calls: probe CHANNEL CODE; restart; help\n").unwrap();
         assert!(listed.has("probe"));
         assert!(listed.has("restart"));
         assert!(!listed.has("CHANNEL"));
         assert!(!listed.has("love"));
-        assert!(Listed::read("error unknown call").is_err());
+        assert!(Listed::read("error unknown call\n").is_none());
     }
 
     #[test]
     fn fewer_calls_in_the_same_order_lie_within() {
-        let all = Listed::read("calls: probe CHANNEL CODE; restart; help").unwrap();
+        let all = Listed::read("calls: probe CHANNEL CODE; restart; help\n").unwrap();
         let read = |help| Listed::read(help).unwrap();
-        assert!(read("calls: restart; help").is_within(&all));
-        assert!(read("calls: probe CHANNEL CODE; restart; help").is_within(&all));
-        assert!(!read("calls: help; restart").is_within(&all));
-        assert!(!read("calls: probe CHANNEL").is_within(&all));
-        assert!(!read("calls: restart; restart").is_within(&all));
+        assert!(read("calls: restart; help\n").is_within(&all));
+        assert!(read("calls: probe CHANNEL CODE; restart; help\n").is_within(&all));
+        assert!(!read("calls: help; restart\n").is_within(&all));
+        assert!(!read("calls: probe CHANNEL\n").is_within(&all));
+        assert!(!read("calls: restart; restart\n").is_within(&all));
     }
 }

@@ -82,16 +82,18 @@ impl<'a> Writer<'a> {
         self.memory_peeks = MemoryPeeks::Always;
     }
 
-    /// How many calls were written; peeks after a call do not count.
+    /// How many calls were written; peeks, and pokes that set a scene, do not count.
     pub fn calls(&self) -> usize {
         self.calls
     }
 
-    /// Ends the script with a look at the memory; the last line has no line feed half of the time.
+    /// Writes a line without peeks.
+    pub fn last(&mut self, line: &[u8]) {
+        self.quiet(line);
+    }
+
+    /// The script's lines; the last one has no line feed half of the time.
     pub fn finish(mut self) -> Vec<Line> {
-        if self.listed.has("peek") {
-            self.lines.push(peek_line(MEMORY));
-        }
         if self.rng.chance(50) {
             if let Some(last) = self.lines.last_mut() {
                 last.pop();
@@ -109,6 +111,7 @@ impl<'a> Writer<'a> {
     /// Writes any line without a line feed in it, readable or not, and peeks after it.
     pub fn raw(&mut self, line: &[u8]) -> Option<String> {
         let answer = self.quiet(line)?;
+        self.calls += 1;
         self.peek(touches_memory(line));
         answer
     }
@@ -122,7 +125,6 @@ impl<'a> Writer<'a> {
         if is_left_out {
             return None;
         }
-        self.calls += 1;
         let mut ended = line.to_vec();
         ended.push(b'\n');
         self.lines.push(ended);
@@ -143,6 +145,7 @@ impl<'a> Writer<'a> {
     /// Stores an entry, then peeks.
     pub fn poke(&mut self, place: Place, value: i64) {
         self.set(place.table, place.place, value);
+        self.calls += 1;
         self.peek(matches!(place.table, "memory" | "probe"));
     }
 
@@ -179,6 +182,13 @@ impl<'a> Writer<'a> {
                 self.set("probe", channel, i64::from(code));
             }
         }
+    }
+
+    /// Sets a probe code by the entry, seldom of a channel that there is not.
+    pub fn set_code(&mut self) {
+        let channel = self.rng.below(card::CHANNELS + 1);
+        let code = card::probe_code(&mut self.rng);
+        self.call(&format!("probe {channel} {code}"));
     }
 
     /// Sends a frame to a dialect's entry.

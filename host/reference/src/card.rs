@@ -221,7 +221,9 @@ fn outside_unsigned(value: u32, range: Range) -> i32 {
 }
 
 /// Whether every register lies in its range.
-#[inline]
+///
+/// Kept out of line: three of these loops woven into each other need more vector registers than there are.
+#[inline(never)]
 pub fn registers_fit(registers: &[i32; REGISTERS]) -> bool {
     registers
         .iter()

@@ -30,14 +30,16 @@ pub struct Section {
     pub is_followed: bool,
     /// Writes the next scene.
     scene: fn(&mut Writer),
-    /// Writes what stands at a script's end.
+    /// Writes what stands at a script's end, after the last peeks.
     close: fn(&mut Writer),
 }
 
 impl Section {
-    /// Whether the listed calls suffice.
+    /// Whether the listed calls suffice: all that it needs, and one of its entries.
     pub fn is_possible(&self, listed: &Listed) -> bool {
+        let mut entries = self.entries.iter();
         self.needs.iter().all(|call| listed.has(call))
+            && (self.entries.is_empty() || entries.any(|entry| listed.has(entry.call())))
     }
 }
 
@@ -93,7 +95,7 @@ pub const SECTIONS: [Section; 8] = [
     },
     Section {
         name: "image",
-        needs: &["load"],
+        needs: &[],
         entries: &[Entry::Save, Entry::Load],
         is_followed: false,
         scene: image::scene,
@@ -150,6 +152,7 @@ impl<'a> Scribe<'a> {
             (self.section.scene)(&mut writer);
             self.scenes += 1;
         }
+        writer.peek(true);
         (self.section.close)(&mut writer);
         self.scripts += 1;
         self.left = self.left.saturating_sub(writer.calls());

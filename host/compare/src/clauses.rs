@@ -1,0 +1,286 @@
+//! The clauses of whole exchanges (document 01, "Datalink", second half), checked on a program's own answers.
+//!
+//! A watch reads lines and answers and follows the exchange from `request` on. It checks only while the premise
+//! holds: a request that 7 does not refuse, answers that the frame last sent got in its round, and no other change or
+//! acknowledge that was accepted, nor a poke. So any part of a script can be watched.
+
+use crate::card::{MEMORY_END, MEMORY_PLACES, MEMORY_START, WRITABLE_START};
+use crate::frames::datalink::{ACKNOWLEDGE, CHANGE, CHANGE_BITS, COMMAND_FIELD};
+use crate::text::{bytes_of, number, words};
+
+/// Arrivals of a frame in its round; any further one is another frame.
+const ARRIVALS_MOST: usize = 2;
+/// Rounds of an exchange: change, acknowledge, interrogate.
+const ROUNDS: usize = 3;
+/// The first writable entry of the memory.
+const WRITABLE: usize = (WRITABLE_START - MEMORY_START) as usize;
+/// Limits of a request that 7 does not refuse.
+const IA_MOST: i64 = 31;
+const BYTES_MOST: usize = 32;
+const BITS_MOST: usize = 16;
+const ADDRESS_END: i64 = 65_536;
+
+/// What a request asks, as masks and states: a data byte has mask 00h.
+struct Asked {
+    address: i64,
+    forces: Vec<(u8, u8)>,
+}
+
+impl Asked {
+    /// The request of a line's words after `request`; none if 7 refuses it.
+    fn read(rest: &[&[u8]]) -> Option<Self> {
+        let (&[kind, ia, address], data) = rest.split_first_chunk()?;
+        let (ia, address) = (number(ia)?, number(address)?);
+        let forces: Vec<(u8, u8)> = if kind == b"bits" {
+            let slash = data.iter().position(|word| *word == b"/")?;
+            let masks = bytes_of(data[..slash].iter().copied())?;
+            let states = bytes_of(data[slash + 1..].iter().copied())?;
+            if masks.len() != states.len() || masks.len() > BITS_MOST {
+                return None;
+            }
+            masks.into_iter().zip(states).collect()
+        } else {
+            let bytes = bytes_of(data.iter().copied())?;
+            bytes.into_iter().map(|byte| (0, byte)).collect()
+        };
+        let fits = ia <= IA_MOST
+            && forces.len() <= BYTES_MOST
+            && address < ADDRESS_END
+            && address + forces.len() as i64 <= ADDRESS_END;
+        fits.then_some(Self { address, forces })
+    }
+
+    /// Whether the order gives the range neither 6 nor 8.
+    fn is_writable(&self) -> bool {
+        let first = if self.forces.is_empty() {
+            MEMORY_START
+        } else {
+            WRITABLE_START
+        };
+        let end = self.address + self.forces.len() as i64;
+        self.address >= i64::from(first) && end <= i64::from(MEMORY_END)
+    }
+
+    /// The memory with every named writable byte as asked.
+    fn applied(&self, old: &[u8]) -> Vec<u8> {
+        let mut memory = old.to_vec();
+        for (place, &(mask, state)) in (self.address..).zip(&self.forces) {
+            let place = usize::try_from(place - i64::from(MEMORY_START)).unwrap_or(0);
+            if (WRITABLE..memory.len()).contains(&place) {
+                memory[place] = (memory[place] & mask) | state;
+            }
+        }
+        memory
+    }
+}
+
+/// An exchange while its premise holds.
+struct Exchange {
+    asked: Asked,
+    old: Vec<u8>,
+    /// The memory with the named bytes as asked.
+    new: Vec<u8>,
+    says: Vec<u8>,
+    /// The frame last sent; none before the first and after the end.
+    frame: Option<Vec<u8>>,
+    /// Answers with number 0 that its arrivals in this round got.
+    answers: Vec<Vec<u8>>,
+    arrivals: usize,
+    is_first_accepted: bool,
+    /// For each closed round whether it was lossless.
+    closed: Vec<bool>,
+    /// Whether a restart fell between the first arrivals of change and acknowledge.
+    is_restarted_between: bool,
+}
+
+impl Exchange {
+    fn new(asked: Asked, old: Vec<u8>) -> Self {
+        let new = asked.applied(&old);
+        Self {
+            asked,
+            old,
+            new,
+            says: Vec::new(),
+            frame: None,
+            answers: Vec::new(),
+            arrivals: 0,
+            is_first_accepted: false,
+            closed: Vec::new(),
+            is_restarted_between: false,
+        }
+    }
+
+    /// A step that was not refused; false if the answer it got breaks the premise.
+    fn step(&mut self, heard: &[u8], says: &[u8], sent: Vec<u8>) -> bool {
+        if self.frame.is_some() {
+            if !heard.is_empty() && !self.answers.iter().any(|answer| answer == heard) {
+                return false;
+            }
+            let is_acknowledge = self.closed.len() == 1;
+            let is_heard = is_acknowledge || !heard.is_empty();
+            self.closed
+                .push(self.arrivals > 0 && self.is_first_accepted && is_heard);
+        }
+        self.says = says.to_vec();
+        self.frame = Some(sent).filter(|frame| !frame.is_empty());
+        self.answers.clear();
+        self.arrivals = 0;
+        true
+    }
+
+    /// A Datalink frame with the number and bytes that it got; false if it breaks the premise.
+    fn arrival(&mut self, frame: &[u8], number: i64, answer: Vec<u8>) -> bool {
+        let is_accepted = number == 0 || number == 1;
+        if self.frame.as_deref() == Some(frame) && self.arrivals < ARRIVALS_MOST {
+            if self.arrivals == 0 {
+                self.is_first_accepted = is_accepted;
+            }
+            self.arrivals += 1;
+            if number == 0 {
+                self.answers.push(answer);
+            }
+            return true;
+        }
+        let command = frame.get(1).map_or(0, |byte| byte & COMMAND_FIELD);
+        !(is_accepted && matches!(command, CHANGE | CHANGE_BITS | ACKNOWLEDGE))
+    }
+
+    /// A restart: it counts between the first arrivals of change and acknowledge.
+    fn restart(&mut self) {
+        let after_change = self.closed.len() == 1 || self.arrivals > 0;
+        let before_acknowledge =
+            self.closed.is_empty() || (self.closed.len() == 1 && self.arrivals == 0);
+        self.is_restarted_between |= after_change && before_acknowledge;
+    }
+
+    /// Lossless rounds lead to done, and say nothing before.
+    fn check_says(&self) -> Result<(), String> {
+        let is_lossless = self.closed.iter().all(|&lossless| lossless);
+        if !is_lossless || self.is_restarted_between || !self.asked.is_writable() {
+            return Ok(());
+        }
+        let expected: &[u8] = if self.closed.len() < ROUNDS {
+            b"open"
+        } else {
+            b"done"
+        };
+        if self.says == expected {
+            return Ok(());
+        }
+        Err(format!(
+            "after {} lossless rounds the master must say {}",
+            self.closed.len(),
+            String::from_utf8_lossy(expected)
+        ))
+    }
+
+    /// Named bytes all old or all as asked, by what is said and sent; every other writable byte old.
+    fn check_memory(&self, memory: &[u8]) -> Result<(), String> {
+        let [old, new, now] = [&self.old, &self.new, memory].map(|bytes| &bytes[WRITABLE..]);
+        if now != old && now != new {
+            return Err("the writable bytes are neither all old nor all as asked".to_owned());
+        }
+        if self.closed.is_empty() && now != old {
+            return Err("a byte changed before the acknowledge was sent".to_owned());
+        }
+        if self.says == b"done" && (now != new || !self.asked.is_writable()) {
+            return Err("the master says done, but a named byte is not as asked".to_owned());
+        }
+        Ok(())
+    }
+}
+
+/// Follows the exchanges of a script.
+#[derive(Default)]
+pub struct Watch {
+    /// The memory as it is, if nothing may have changed it since it was shown.
+    memory: Option<Vec<u8>>,
+    exchange: Option<Exchange>,
+}
+
+impl Watch {
+    /// Takes in a line and its answer; says which clause they break.
+    pub fn see(&mut self, line: &[u8], answer: &[u8]) -> Result<(), String> {
+        let line: Vec<&[u8]> = words(line).collect();
+        let answer: Vec<&[u8]> = words(answer).collect();
+        let (Some((&call, rest)), Some(&first)) = (line.split_first(), answer.first()) else {
+            return Ok(());
+        };
+        if first == b"error" {
+            return Ok(());
+        }
+        match call {
+            b"peek" if rest == [b"memory"] => return self.see_memory(&answer),
+            b"peek" | b"governor" | b"save" | b"help" => {}
+            b"request" => {
+                let asked = Asked::read(rest);
+                let old = self.memory.clone();
+                self.exchange = asked.zip(old).map(|(asked, old)| Exchange::new(asked, old));
+            }
+            b"step" => return self.see_step(rest, &answer),
+            b"poke" => {
+                self.memory = None;
+                self.exchange = None;
+            }
+            _ => self.see_card(call, rest, &answer),
+        }
+        Ok(())
+    }
+
+    /// The memory is shown.
+    fn see_memory(&mut self, answer: &[&[u8]]) -> Result<(), String> {
+        let shown: Option<Vec<u8>> = answer
+            .iter()
+            .map(|word| u8::try_from(number(word)?).ok())
+            .collect();
+        self.memory = shown.filter(|memory| memory.len() == MEMORY_PLACES);
+        match (&self.exchange, &self.memory) {
+            (Some(exchange), Some(memory)) => exchange.check_memory(memory),
+            _ => Ok(()),
+        }
+    }
+
+    /// The master takes a step.
+    fn see_step(&mut self, rest: &[&[u8]], answer: &[&[u8]]) -> Result<(), String> {
+        let (&[given, says], sent) = match answer.split_first_chunk() {
+            Some(parts) => parts,
+            None => return Ok(()),
+        };
+        let heard = bytes_of(rest.iter().skip(1).copied());
+        let sent = bytes_of(sent.iter().copied());
+        let is_refused = !matches!(number(given), Some(0 | 1));
+        let (Some(exchange), Some(heard), Some(sent)) = (&mut self.exchange, heard, sent) else {
+            return Ok(());
+        };
+        if is_refused {
+            return Ok(());
+        }
+        if !exchange.step(&heard, says, sent) {
+            self.exchange = None;
+            return Ok(());
+        }
+        exchange.check_says()
+    }
+
+    /// Another call of the card, which may change the memory.
+    fn see_card(&mut self, call: &[u8], rest: &[&[u8]], answer: &[&[u8]]) {
+        self.memory = None;
+        let Some(exchange) = &mut self.exchange else {
+            return;
+        };
+        let Some(given) = number(answer[0]) else {
+            return;
+        };
+        match call {
+            b"restart" if given == 1 => exchange.restart(),
+            b"datalink" => {
+                let frame = bytes_of(rest.iter().skip(1).copied()).unwrap_or_default();
+                let reply = bytes_of(answer[1..].iter().copied()).unwrap_or_default();
+                if !exchange.arrival(&frame, given, reply) {
+                    self.exchange = None;
+                }
+            }
+            _ => {}
+        }
+    }
+}

@@ -1,0 +1,173 @@
+//! Runs both programs on a script and finds the first difference, or the first broken clause of an exchange.
+
+use std::path::{Path, PathBuf};
+
+use crate::calls::Listed;
+use crate::clauses::Watch;
+use crate::program::{run, run_both, End, Run};
+use crate::tally::Tally;
+use crate::text::is_silent;
+use crate::writer::Line;
+
+/// What is wrong with a script's answers.
+#[derive(Clone, PartialEq, Eq, Debug)]
+pub enum Finding {
+    /// The programs differ.
+    Difference {
+        /// The place of the line that was answered differently; the script's length if it is after the last.
+        line: usize,
+        /// What each wrote.
+        console: Vec<u8>,
+        reference: Vec<u8>,
+    },
+    /// The console's own answers break a clause.
+    Clause {
+        /// The place of the line whose answer broke it.
+        line: usize,
+        /// The line's answer.
+        console: Vec<u8>,
+        /// The clause.
+        clause: String,
+    },
+}
+
+/// The two programs, and what the scripts need to know of them.
+pub struct Judge {
+    console: PathBuf,
+    reference: PathBuf,
+    /// What each answers to `help`, with its line feed.
+    console_help: String,
+    reference_help: String,
+}
+
+impl Judge {
+    /// Asks both programs for their calls.
+    pub fn new(console: &Path, reference: &Path) -> Result<Self, String> {
+        let console = find(console)?;
+        let reference = find(reference)?;
+        Ok(Self {
+            console_help: help(&console)?,
+            reference_help: help(&reference)?,
+            console,
+            reference,
+        })
+    }
+
+    /// The calls that the console lists: the reference's, or some of them in the same order; else the difference.
+    pub fn listed(&self) -> Result<Listed, String> {
+        let own = Listed::read(&self.console_help);
+        let other = Listed::read(&self.reference_help);
+        match (own, other) {
+            (Some(own), Some(other)) if own.is_within(&other) => Ok(own),
+            _ => Err(format!(
+                "line:      help\nconsole:   {}reference: {}",
+                self.console_help, self.reference_help
+            )),
+        }
+    }
+
+    /// Runs a script; gives what is wrong, and else counts the answers.
+    pub fn judge(
+        &self,
+        script: &[&Line],
+        is_watched: bool,
+        tally: &mut Tally,
+    ) -> Result<Option<Finding>, String> {
+        let input: Vec<u8> = script.iter().flat_map(|line| line.iter().copied()).collect();
+        let [console, reference] = run_both(&self.console, &self.reference, &input)?;
+        if let Some(difference) = self.difference(script, &console, &reference) {
+            return Ok(Some(difference));
+        }
+        let mut watch = Watch::default();
+        for (line, answer) in answers(script, &console.output) {
+            tally.count(script[line], answer);
+            if !is_watched {
+                continue;
+            }
+            if let Err(clause) = watch.see(script[line], answer) {
+                return Ok(Some(Finding::Clause {
+                    line,
+                    console: answer.to_vec(),
+                    clause,
+                }));
+            }
+        }
+        Ok(None)
+    }
+
+    /// The first line that the programs answered differently.
+    fn difference(&self, script: &[&Line], console: &Run, reference: &Run) -> Option<Finding> {
+        if console.output != reference.output {
+            let mut own = console.output.split_inclusive(is_feed);
+            let mut other = reference.output.split_inclusive(is_feed);
+            let mut lines = (0..script.len()).filter(|&line| !is_silent(script[line]));
+            loop {
+                let line = lines.next().unwrap_or(script.len());
+                let (own, other) = (own.next(), other.next());
+                if own.is_none() && other.is_none() {
+                    break;
+                }
+                if own != other.map(|answer| self.expected(answer)) {
+                    return Some(Finding::Difference {
+                        line,
+                        console: shown(own, &console.end),
+                        reference: shown(other, &reference.end),
+                    });
+                }
+            }
+        }
+        (console.end != End::Well || reference.end != End::Well).then(|| Finding::Difference {
+            line: script.len(),
+            console: shown(None, &console.end),
+            reference: shown(None, &reference.end),
+        })
+    }
+
+    /// What the console must answer where the reference answers this: the list of calls is the console's own.
+    fn expected<'a>(&'a self, answer: &'a [u8]) -> &'a [u8] {
+        if answer == self.reference_help.as_bytes() {
+            self.console_help.as_bytes()
+        } else {
+            answer
+        }
+    }
+}
+
+/// Each line that has an answer, by its place, with the answer.
+fn answers<'a>(
+    script: &'a [&Line],
+    output: &'a [u8],
+) -> impl Iterator<Item = (usize, &'a [u8])> + 'a {
+    (0..script.len())
+        .filter(|&line| !is_silent(script[line]))
+        .zip(output.split_inclusive(is_feed))
+}
+
+fn is_feed(byte: &u8) -> bool {
+    *byte == b'\n'
+}
+
+/// An answer, or how the program ended where it has none.
+fn shown(answer: Option<&[u8]>, end: &End) -> Vec<u8> {
+    match (answer, end) {
+        (Some(answer), _) => answer.to_vec(),
+        (None, End::Well) => b"(no line)".to_vec(),
+        (None, End::Badly(how)) => format!("(no line; {how})").into_bytes(),
+    }
+}
+
+/// A program's path, so that it is not looked for elsewhere.
+fn find(program: &Path) -> Result<PathBuf, String> {
+    program
+        .canonicalize()
+        .map_err(|error| format!("{}: {error}", program.display()))
+}
+
+/// What a program answers to `help`.
+fn help(program: &Path) -> Result<String, String> {
+    let run = run(program, b"help\n")?;
+    match (String::from_utf8(run.output), run.end) {
+        (Ok(text), End::Well) => Ok(text),
+        (_, end) => Err(format!("{}: help ended {end:?}", program.display())),
+    }
+}

@@ -1,0 +1,201 @@
+//! Section `tables`: every entry's answer to fit and unfit tables, channels, rooms, codes and restarts.
+
+use super::dialect::send_valid;
+use crate::card::{self, ranged_places, Place, MEMORY, MEMORY_PLACES, REGISTERS};
+use crate::frames::datalink::{acknowledge, Datalink, TELLING_ADDRESSES, TELLING_NUMS};
+use crate::frames::{lecom::Lecom, love::Love, lucid::Lucid};
+use crate::frames::{love, Dialect};
+use crate::image::Image;
+use crate::writer::{Writer, ANSWER_ROOM, IMAGE_ROOM, TELLING_ROOMS};
+
+/// Scenes of this section.
+const SCENES: usize = 7;
+/// Pending kinds: both changes, none, and two that are no kind.
+const PENDING_KINDS: [u8; 5] = [1, 2, 0, 3, 255];
+/// Places of the pending change's address, NUM and data.
+const PENDING_ADDRESS: usize = 1;
+const PENDING_NUM: usize = 2;
+const PENDING_DATA: usize = 3;
+const PENDING_DATA_MOST: usize = 32;
+
+/// Writes the next scene.
+pub fn scene(out: &mut Writer) {
+    let turn = out.turn / SCENES;
+    match out.turn % SCENES {
+        0 => one_entry(out, turn),
+        1 => pending(out, turn),
+        2 => channels(out, turn),
+        3 => rooms(out, turn),
+        4 => codes(out, turn),
+        5 => restart(out),
+        _ => memory(out),
+    }
+}
+
+/// Calls every entry once, in random order.
+fn every_entry(out: &mut Writer) {
+    let mut calls: [fn(&mut Writer); 9] = [
+        |out| out.set_code(),
+        |out| drop(out.call("restart")),
+        |out| reading(out),
+        send_valid::<Datalink>,
+        send_valid::<Lecom>,
+        send_valid::<Love>,
+        send_valid::<Lucid>,
+        |out| drop(out.call(&format!("save {IMAGE_ROOM}"))),
+        |out| load_same(out),
+    ];
+    out.rng.shuffle(&mut calls);
+    for call in calls {
+        call(out);
+    }
+}
+
+/// Gives the governor a reading, seldom of a channel that there is not.
+fn reading(out: &mut Writer) {
+    let channel = out.rng.below(card::CHANNELS + 1);
+    out.call(&format!("governor {channel}"));
+}
+
+/// Reads an image that leaves the card its addresses.
+fn load_same(out: &mut Writer) {
+    let image = Image::fit(&mut out.rng, &out.addresses);
+    out.load(&image.bytes());
+}
+
+/// One entry of a table at, inside or past its range; all calls; the entry fit again.
+fn one_entry(out: &mut Writer, turn: usize) {
+    let places = ranged_places();
+    let place = places[turn % places.len()];
+    let value = place.any_value(&mut out.rng);
+    out.poke(place, value);
+    every_entry(out);
+    if place.table == "address" {
+        out.set_addresses();
+        out.peek(false);
+    } else {
+        let value = place.fit_value(&mut out.rng);
+        out.poke(place, value);
+    }
+    reading(out);
+}
+
+/// A pending change of every kind, address and NUM; all calls; nothing pending again.
+fn pending(out: &mut Writer, turn: usize) {
+    let kind = PENDING_KINDS[turn % PENDING_KINDS.len()];
+    let turn = turn / PENDING_KINDS.len();
+    let num = TELLING_NUMS[turn % TELLING_NUMS.len()];
+    let address = TELLING_ADDRESSES[turn / TELLING_NUMS.len() % TELLING_ADDRESSES.len()];
+    out.set("pending", PENDING_ADDRESS, i64::from(address));
+    out.set("pending", PENDING_NUM, i64::from(num));
+    for _ in 0..4 {
+        let place = PENDING_DATA + out.rng.below(PENDING_DATA_MOST);
+        let value = i64::from(out.rng.byte());
+        out.set("pending", place, value);
+    }
+    let place = Place {
+        table: "pending",
+        place: 0,
+    };
+    out.poke(place, i64::from(kind));
+    if out.rng.chance(50) {
+        let ia = out.addresses.ia;
+        out.frame(Datalink::CALL, ANSWER_ROOM, &acknowledge(ia));
+    }
+    every_entry(out);
+    out.poke(place, 0);
+    reading(out);
+}
+
+/// Every channel number from 0 to 255.
+fn channels(out: &mut Writer, turn: usize) {
+    let swept = turn % 256;
+    for channel in [swept, swept % card::CHANNELS] {
+        let code = card::probe_code(&mut out.rng);
+        out.call(&format!("probe {channel} {code}"));
+        out.call(&format!("governor {channel}"));
+    }
+}
+
+/// Every room around the limits, on a fit and on an unfit card.
+fn rooms(out: &mut Writer, turn: usize) {
+    let place = Place {
+        table: "demand",
+        place: turn % card::CHANNELS,
+    };
+    let is_unfit = out.rng.chance(30);
+    if is_unfit {
+        let (_, highest) = card::DEMAND_RANGE;
+        out.poke(place, highest + 1);
+    }
+    let mut rooms = TELLING_ROOMS.to_vec();
+    rooms.push(turn % 1025);
+    for room in rooms {
+        out.call(&format!("save {room}"));
+        let frame = love::request(out.addresses.love, b"00");
+        out.frame(Love::CALL, room, &frame);
+    }
+    if is_unfit {
+        let value = place.fit_value(&mut out.rng);
+        out.poke(place, value);
+    }
+}
+
+/// The governor's reading of each code.
+fn codes(out: &mut Writer, turn: usize) {
+    let channel = turn % card::CHANNELS;
+    for code in [turn % 256, usize::from(card::probe_code(&mut out.rng))] {
+        if out.rng.chance(50) {
+            out.call(&format!("probe {channel} {code}"));
+        } else {
+            let place = Place {
+                table: "probe",
+                place: channel,
+            };
+            out.poke(place, code as i64);
+        }
+        out.call(&format!("governor {channel}"));
+    }
+}
+
+/// A restart after changes of every table that it looks at.
+fn restart(out: &mut Writer) {
+    let touched = ["buffer", "operational", "saved"].map(|table| Place {
+        table,
+        place: out.rng.below(REGISTERS),
+    });
+    let counted = ["demand", "love"].map(|table| Place {
+        table,
+        place: out.rng.below(card::CHANNELS),
+    });
+    let parameters = ["parameter", "kept"].map(|table| Place {
+        table,
+        place: out.rng.below(card::PARAMETERS),
+    });
+    for place in touched.into_iter().chain(counted).chain(parameters) {
+        let value = place.fit_value(&mut out.rng);
+        out.set(place.table, place.place, value);
+    }
+    out.set_probes();
+    send_valid::<Datalink>(out);
+    out.call("restart");
+    every_entry(out);
+    out.call("restart");
+}
+
+/// Bytes of the Datalink memory at its ends, at the probes and anywhere.
+fn memory(out: &mut Writer) {
+    let anywhere = out.rng.below(MEMORY_PLACES);
+    for place in [0, 3, 4, 15, 16, MEMORY_PLACES - 1, anywhere] {
+        let byte = out.rng.byte();
+        let value = out.rng.pick(&[0, 1, 127, 128, 254, 255, byte]);
+        let place = Place {
+            table: MEMORY,
+            place,
+        };
+        out.poke(place, i64::from(value));
+    }
+    reading(out);
+    send_valid::<Datalink>(out);
+    send_valid::<Lucid>(out);
+}

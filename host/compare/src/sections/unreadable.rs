@@ -1,0 +1,317 @@
+//! Section `unreadable`: lines that cannot be read, or only just.
+
+use crate::card::{ranged_places, SMALL_TABLES};
+use crate::frames::{datalink::Datalink, lecom::Lecom, love::Love, lucid::Lucid, Dialect};
+use crate::text::{hex_words, LINE_MOST};
+use crate::writer::Writer;
+
+/// Scenes of this section.
+const SCENES: usize = 6;
+/// Lines of one scene.
+const LINES: usize = 8;
+/// Places of a table that readable lines poke, from the first on.
+const POKED_PLACES: usize = 3;
+/// Lengths of long lines: one below the longest, the longest, one above, and far above.
+const LONG_LENGTHS: [usize; 4] = [LINE_MOST, LINE_MOST + 1, LINE_MOST - 1, 70_000];
+/// Kinds of long lines.
+const LONG_KINDS: usize = 7;
+
+/// Whole lines that are odd as they are.
+const ODD_LINES: [&[u8]; 62] = [
+    b"",
+    b" ",
+    b"     ",
+    b"#",
+    b"# probe 0 1",
+    b"#probe 0 1",
+    b" #",
+    b" # probe 0 1",
+    b"\t",
+    b" \t ",
+    b"\r",
+    b"\x00",
+    b"\xFF\xFE",
+    b"\xEF\xBB\xBFprobe 0 1",
+    b"\x0Bprobe 0 1",
+    b"probe\t0\t1",
+    b"probe 0\t1",
+    b"probe 0 1\t",
+    b"probe 0 1\r",
+    b"probe 0 1 \r",
+    b"\tprobe 0 1",
+    b"probe\xC2\xA00 1",
+    b"   probe   0   17   ",
+    b"probe 0 1 # comment",
+    b"PROBE 0 1",
+    b"Probe 0 1",
+    b"prob 0 1",
+    b"probes 0 1",
+    b"probe0 1",
+    b"probe,0,1",
+    b"restart now",
+    b"restart 0",
+    b"restart\x00",
+    b"RESTART",
+    b"help me",
+    b"help",
+    b"  help  ",
+    b"Help",
+    b"helps",
+    b"calls:",
+    b"error",
+    b"error unknown call",
+    b"ok",
+    b"0",
+    b"-",
+    b"/",
+    b"7E",
+    b"peek",
+    b"peek nothing",
+    b"peek Memory",
+    b"peek memory memory",
+    b"peek probe 0",
+    b"poke",
+    b"poke nothing 0 0",
+    b"request",
+    b"request nothing 3 4096 01",
+    b"request change",
+    b"request bits 3 4096",
+    b"request bits 3 4096 FF 00",
+    b"request bits 3 4096 FF/00",
+    b"request bits 3 4096 FF / 00 / 00",
+    b"request bits 3 4096 / /",
+];
+
+/// Words in the place of a number.
+const ODD_NUMBERS: [&str; 40] = [
+    "",
+    "-",
+    "-0",
+    "-1",
+    "+1",
+    "--1",
+    "1-",
+    "0",
+    "00",
+    "3",
+    "4",
+    "31",
+    "35",
+    "96",
+    "255",
+    "256",
+    "1024",
+    "1025",
+    "4095",
+    "4096",
+    "65535",
+    "65536",
+    "2147483647",
+    "2147483648",
+    "-2147483648",
+    "-2147483649",
+    "4294967295",
+    "4294967296",
+    "9999999999",
+    "0000000001",
+    "-0000000001",
+    "00000000001",
+    "-00000000001",
+    "00000000000",
+    "18446744073709551616",
+    "1.0",
+    "1e1",
+    "0x1",
+    "A",
+    "\u{FF11}",
+];
+
+/// Words in the place of a byte.
+const ODD_BYTES: [&str; 18] = [
+    "", "0", "7", "000", "7EE", "0G", "G0", "g0", "0x", "-1", "+1", "/", "//", "7e", "fF", "\u{E9}",
+    "\u{FF17}E", "0\t",
+];
+
+/// Writes the next scene.
+pub fn scene(out: &mut Writer) {
+    let turn = out.turn / SCENES;
+    match out.turn % SCENES {
+        0 => odd_lines(out, turn),
+        1 | 2 => spoiled_lines(out),
+        3 => numbers(out, turn),
+        4 => noise_lines(out),
+        _ => long_lines(out, turn),
+    }
+    if out.rng.chance(20) {
+        repair(out);
+        out.peek(true);
+    }
+}
+
+/// The script's last line, which may lose its line feed.
+pub fn close(out: &mut Writer) {
+    let line = match out.rng.below(5) {
+        0 => out.rng.pick(&ODD_LINES).to_vec(),
+        1 => readable(out).join(" ").into_bytes(),
+        2 => spoiled(out),
+        3 => noise(out),
+        _ => {
+            let kind = out.rng.below(LONG_KINDS);
+            let length = out.rng.pick(&LONG_LENGTHS);
+            long_line(kind, length)
+        }
+    };
+    out.last(&line);
+}
+
+/// Makes the entries fit again that lines of this section poke.
+fn repair(out: &mut Writer) {
+    out.set_addresses();
+    out.set("pending", 0, 0);
+    for place in ranged_places() {
+        if place.table != "address" && place.place < POKED_PLACES {
+            let value = place.fit_value(&mut out.rng);
+            out.set(place.table, place.place, value);
+        }
+    }
+}
+
+/// Lines of the list, each in its turn.
+fn odd_lines(out: &mut Writer, turn: usize) {
+    for line in 0..LINES {
+        out.raw(ODD_LINES[(LINES * turn + line) % ODD_LINES.len()]);
+    }
+}
+
+/// Readable lines spoiled, each on the card as the one before left it.
+fn spoiled_lines(out: &mut Writer) {
+    for _ in 0..LINES {
+        let line = spoiled(out);
+        out.raw(&line);
+    }
+}
+
+/// A readable line with one word left out, put in or changed, or with another separator.
+fn spoiled(out: &mut Writer) -> Vec<u8> {
+    let mut words = readable(out);
+    let rng = &mut out.rng;
+    let place = rng.below(words.len());
+    match rng.below(8) {
+        0 => drop(words.remove(place)),
+        1 => words.insert(place, rng.pick(&ODD_NUMBERS).to_owned()),
+        2 => words.push(rng.pick(&["0", "00", "x", "/", "#"]).to_owned()),
+        3 => words[place] = rng.pick(&ODD_NUMBERS).to_owned(),
+        4 => words[place] = rng.pick(&ODD_BYTES).to_owned(),
+        5 => words[place] = words[place].to_ascii_uppercase(),
+        6 => words[place].push(rng.pick(&['\t', '\r', '0', '-', '\0', '\u{E9}'])),
+        _ => words.truncate(place),
+    }
+    words.join(rng.pick(&[" ", " ", " ", "  ", "\t"])).into_bytes()
+}
+
+/// Every number of a readable line replaced by each odd one.
+fn numbers(out: &mut Writer, turn: usize) {
+    let number = ODD_NUMBERS[turn % ODD_NUMBERS.len()];
+    let lines = [
+        format!("probe {number} 1"),
+        format!("probe 1 {number}"),
+        format!("governor {number}"),
+        format!("datalink {number} 7E 83"),
+        format!("lecom {number} 04 31 31 30 30 05"),
+        format!("love {number} 02"),
+        format!("lucid {number} 46 00 10 00"),
+        format!("save {number}"),
+        format!("step {number}"),
+        format!("request change {number} 4112 01 02"),
+        format!("request change 3 {number} 01 02"),
+        format!("request bits {number} 4112 01 / 02"),
+        format!("request bits 3 {number} 01 / 02"),
+    ];
+    for line in lines {
+        out.raw(line.as_bytes());
+    }
+    for table in SMALL_TABLES.into_iter().chain(["memory"]) {
+        out.raw(format!("poke {table} {number} 1").as_bytes());
+        let place = out.rng.below(POKED_PLACES);
+        out.raw(format!("poke {table} {place} {number}").as_bytes());
+    }
+    repair(out);
+}
+
+/// Random bytes, each line on the card as the one before left it.
+fn noise_lines(out: &mut Writer) {
+    for _ in 0..LINES {
+        let line = noise(out);
+        out.raw(&line);
+    }
+}
+
+/// Random bytes without a line feed, alone or behind a call's name.
+fn noise(out: &mut Writer) -> Vec<u8> {
+    let mut line = if out.rng.chance(50) {
+        readable(out)[0].clone().into_bytes()
+    } else {
+        Vec::new()
+    };
+    line.push(b' ');
+    let length = out.rng.below(40);
+    line.extend(out.rng.bytes(length));
+    line.retain(|&byte| byte != b'\n');
+    line
+}
+
+/// A long line of each kind and length, and a look at what a `probe` in it might have done.
+fn long_lines(out: &mut Writer, turn: usize) {
+    let length = LONG_LENGTHS[turn % LONG_LENGTHS.len()];
+    let line = long_line(turn / LONG_LENGTHS.len() % LONG_KINDS, length);
+    out.raw(&line);
+    out.raw(b"governor 1");
+}
+
+/// A call, a comment, spaces, bytes or an unknown word of exactly this length.
+fn long_line(kind: usize, length: usize) -> Vec<u8> {
+    let (start, filler): (&[u8], &[u8]) = match kind {
+        0 => (b"probe 1 90", b" "),
+        1 => (b"#", b" "),
+        2 => (b"", b" "),
+        3 => (b"load", b" 00"),
+        4 => (b"datalink 38", b" 7E"),
+        5 => (b"request change 3 4112", b" 5A"),
+        _ => (b"x", b"x"),
+    };
+    let mut line = start.to_vec();
+    while line.len() + filler.len() <= length {
+        line.extend_from_slice(filler);
+    }
+    line.resize(length, b' ');
+    line
+}
+
+/// The words of a readable line of any call.
+fn readable(out: &mut Writer) -> Vec<String> {
+    let rng = &mut out.rng;
+    let to = out.addresses;
+    let byte = rng.byte();
+    let table = rng.pick(&SMALL_TABLES);
+    let line = match rng.below(14) {
+        0 => format!("probe {} {byte}", byte % 5),
+        1 => "restart".to_owned(),
+        2 => format!("governor {}", byte % 5),
+        3 => format!("datalink 38{}", hex_words(&Datalink::valid(rng, &to))),
+        4 => format!("lecom 38{}", hex_words(&Lecom::valid(rng, &to))),
+        5 => format!("love 38{}", hex_words(&Love::valid(rng, &to))),
+        6 => format!("lucid 38{}", hex_words(&Lucid::valid(rng, &to))),
+        7 => "save 293".to_owned(),
+        8 => format!("load{}", hex_words(&rng.bytes(4))),
+        9 => format!("request change 3 4112{}", hex_words(&rng.bytes(3))),
+        10 => {
+            let masks = hex_words(&rng.bytes(2));
+            let states = hex_words(&rng.bytes(2));
+            format!("request bits 3 4112{masks} /{states}")
+        }
+        11 => format!("step 38{}", hex_words(&rng.bytes(usize::from(byte % 4)))),
+        12 => format!("poke {table} {} {byte}", byte % 3),
+        _ => format!("peek {table}"),
+    };
+    line.split(' ').map(str::to_owned).collect()
+}
