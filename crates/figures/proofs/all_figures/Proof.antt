@@ -1,6 +1,6 @@
 -- `figures::all_figures` meets its contract. The invariant: the answer is `all` and the rest of the characters. Assumes nothing.
-use mathlib.Core.Path.{_≡_, sym, ap, _∙_}
-use mathlib.Core.Bool.{Bool, _&&_, and-true}
+use mathlib.Core.Path.{_≡_, sym, _∙_}
+use mathlib.Core.Bool.{_&&_, and-true}
 use Prim.Native.Nat.{_+_, _-_, _≤_}
 use native.Mathlib.Numerals.{add-one}
 use native.Mathlib.Omega.{arith}
@@ -8,7 +8,7 @@ use borrow.Author.Needs.{needs}
 use lib.Dec.{ltb}
 use lib.ListN.{length, drop, drop-of-length-le}
 use Rattle.figures.specs.Figure.{allFigures}
-use Rattle.figures.proofs.Laws.{all-next}
+use Rattle.figures.proofs.Characters.{all-next}
 use Rattle.figures.proofs.all_figures.Statement.{statement}
 use Rattle.figures.proofs.all_figures.Tie as tie
 
@@ -34,7 +34,7 @@ loop-less : tie.Need-loop-less Inv-loop μ-loop
 loop-less c = omega arith
 
 loop-again : tie.Need-loop-again Inv-loop μ-loop
-loop-again c = 
+loop-again c =
     let at-loop = c .before .before .before in
     let l = at-loop .loop in
     let a = at-loop .before .before .args in
@@ -44,7 +44,7 @@ loop-again c =
 
 returns : tie.Need-returns Inv-loop μ-loop
 unfolding allFigures
-returns c = 
+returns c =
     let s = c .before .before .before .args .s .now in
     rw (c .before .loop .inv .1, drop-of-length-le s (c .loop-test .left)) (sym (and-true (c .before .loop .all)))
 

@@ -1,9 +1,8 @@
 -- `figures::figure` meets its contract: its tests are those of the definition, and a range's lower bound is what each difference needs. Assumes nothing.
-use mathlib.Core.Path.{_≡_, sym, _∙_}
 use native.Mathlib.Omega.{arith}
 use Rattle.wire.proofs.Cases.{cases, told-true}
 use Rattle.figures.specs.Figure.{figureOf}
-use Rattle.figures.proofs.Laws.{in-range}
+use Rattle.figures.proofs.Characters.{in-range}
 use borrow.Author.Needs.{needs}
 use Rattle.figures.proofs.figure.Statement.{statement}
 use Rattle.figures.proofs.figure.Tie as tie

@@ -1,7 +1,6 @@
 -- `figures::pair_byte` meets its contract. Assumes nothing.
-use mathlib.Core.Path.{_≡_}
 use Rattle.wire.proofs.Cases.{cases}
-use Rattle.figures.specs.Figure.{figureOf, pairByte}
+use Rattle.figures.specs.Figure.{pairByte}
 use borrow.Author.Needs.{needs}
 use Rattle.figures.proofs.pair_byte.Statement.{statement}
 use Rattle.figures.proofs.pair_byte.Tie as tie

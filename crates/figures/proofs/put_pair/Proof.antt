@@ -1,9 +1,8 @@
 -- `figures::put_pair` meets its contract: two stores are a list of two put there. Assumes nothing.
-use mathlib.Core.Path.{_≡_, refl, ap, _∙_}
 use lib.ListN.{length-set}
 use native.Mathlib.Omega.{arith}
 use Rattle.figures.specs.Figure.{pairOf}
-use Rattle.figures.proofs.Laws.{put-two}
+use Rattle.figures.proofs.Characters.{put-two}
 use borrow.Author.Needs.{needs}
 use Rattle.figures.proofs.put_pair.Statement.{statement}
 use Rattle.figures.proofs.put_pair.Tie as tie
@@ -28,7 +27,7 @@ same-length c = search needs
 
 returns : tie.Need-returns
 unfolding pairOf
-returns c = 
+returns c =
     let a = c .before .before .before .args in
     rw (c .before .figure-char .ensures, c .figure-char2 .ensures) (put-two (a .out .now) (a .at) _ _ (search needs))
 
