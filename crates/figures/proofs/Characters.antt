@@ -27,10 +27,12 @@ in-range lo hi b h =
     let t = both (leb lo b) (leb b hi) h in
     (leb-true lo b (t .0), leb-true b hi (t .1))
 
+-- within both bounds
 in-range-yes : (lo hi b : ℕ) → lo ≤ b → b ≤ hi → inRange lo hi b ≡ true
 unfolding inRange
 in-range-yes lo hi b l h = rw (le-leb lo b l, le-leb b hi h)
 
+-- above the upper bound
 in-range-above : (lo hi b : ℕ) → hi < b → inRange lo hi b ≡ false
 unfolding inRange
 in-range-above lo hi b h = rw (lt-leb b hi h) (and-false (leb lo b))

@@ -32,6 +32,7 @@ digits-figures (suc k) n =
     all-append decimal (digits k (n / 10)) (charOf (n % 10) ∷ [])
     ∙ simp (digits-figures k (n / 10), figure-char (n % 10) (omega arith), lt-ltb (n % 10) decimal (omega arith))
 
+-- the last figure of n, read after the value v
 figure-read : (v n : ℕ) (r : List ℕ) → valueFrom v (charOf (n % 10) ∷ r) ≡ valueFrom (v * 10 + n % 10) r
 unfolding valueFrom
 figure-read v n r = rw (figure-char (n % 10) (omega arith))
@@ -59,6 +60,7 @@ value-digits k n h =
     let e : 0 * 10 ^ k + n % 10 ^ k ≡ n = omega (arith, mod-eq-of-lt h) in
     ap (valueFrom 0) (sym (append-nil (digits k n))) ∙ digits-read k n 0 [] ∙ e
 
+-- the value of figures read after the value v
 value-from-below : (v : ℕ) (s : List ℕ) → allFigures decimal s ≡ true → valueFrom v s < (v + 1) * 10 ^ length s
 unfolding valueFrom allFigures
 value-from-below v [] h = omega arith
@@ -103,6 +105,7 @@ digits-last d at (suc j) v h l =
     let q : at + suc j ≡ suc (at + j) = omega arith in
     rw (e, n, t, r, m, q) (simp append-assoc)
 
+-- the number of divisions allowed does not matter once it is enough
 size-turns : (t u n : ℕ) → n ≤ t → n ≤ u → sizeWithin t n ≡ sizeWithin u n
 unfolding sizeWithin
 size-turns zero zero n h k = refl
@@ -123,6 +126,7 @@ unfolding sizeOf sizeWithin
 size-more zero h = absurd (not-suc-le-zero h)
 size-more (suc n) h = sym (second _ _ _ _ (le-ltb (suc n) 10 h) (ap suc (size-turns (suc n / 10) n (suc n / 10) (omega arith) (omega arith))))
 
+-- induction by tenths, as long as it takes no more than t divisions
 within-turns : (P : ℕ → Type 0) → ((n : ℕ) → n < 10 → P n) → ((n : ℕ) → 10 ≤ n → P (n / 10) → P n) → (t n : ℕ) → n ≤ t → P n
 within-turns P one more zero n h = one n (omega arith)
 within-turns P one more (suc t) n h = by (within-turns P one more t (n / 10) (omega arith)) (decLt n 10)
@@ -167,12 +171,14 @@ pub value-shortest : (n : ℕ) → valueOf (shortest n) ≡ n
 unfolding shortest
 value-shortest n = value-digits (sizeOf n) n (size-enough n)
 
+-- the first figure of a number below ten
 first-one : (n : ℕ) → n < 10 → getD (shortest n) 0 0 ≡ charOf n
 unfolding shortest digits
 first-one n h =
     let m : n % 10 ≡ n = mod-eq-of-lt h in
     rw (size-one n h, m)
 
+-- the first figure of any other is its tenth's
 first-more : (n : ℕ) → 10 ≤ n → getD (shortest n) 0 0 ≡ getD (shortest (n / 10)) 0 0
 unfolding shortest digits
 first-more n h =

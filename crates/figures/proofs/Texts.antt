@@ -23,20 +23,23 @@ pub negative-at-least : (w : ℕ) → isNegative w ≡ true → half ≤ w
 unfolding isNegative
 negative-at-least w h = leb-true half w h
 
+-- and a word that is, is negative
 negative : (w : ℕ) → half ≤ w → isNegative w ≡ true
 unfolding isNegative
 negative w h = le-leb half w h
 
+-- a word below half of all words is not
 positive : (w : ℕ) → w < half → isNegative w ≡ false
 unfolding isNegative
 positive w h = lt-leb half w h
 
 -- the magnitude of a negative word
-magnitude-negative : (w : ℕ) → half ≤ w → magnitude w ≡ minus w
+pub magnitude-negative : (w : ℕ) → half ≤ w → magnitude w ≡ minus w
 unfolding magnitude choose
 magnitude-negative w h = simp (negative w h)
 
-magnitude-positive : (w : ℕ) → w < half → magnitude w ≡ w
+-- the magnitude of any other word is the word
+pub magnitude-positive : (w : ℕ) → w < half → magnitude w ≡ w
 unfolding magnitude choose
 magnitude-positive w h = simp (positive w h)
 
@@ -128,6 +131,7 @@ text-first w p l e = by (decLe half w)
         let f : getD (shortest (magnitude w)) 0 0 ≡ zeroChar = simp (text-positive w (positive w (omega arith)), positive w (omega arith)) at e in
         shortest-first (magnitude w) (omega (arith, magnitude-positive w (omega arith))) f
 
+-- a number's shortest decimal is read as the number, with the sign given
 figures-shortest : (bound : ℕ) (s : Bool) (n : ℕ) → n ≤ bound → figuresOf bound s (shortest n) ≡ Value (withSign s n)
 unfolding figuresOf choose
 figures-shortest bound s n h =
