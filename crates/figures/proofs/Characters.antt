@@ -1,0 +1,105 @@
+-- Laws of specs/Figure.antt: figures and their characters, pairs of characters. Assumes nothing.
+use Prim.Native.Nat.{ℕ, suc, _+_, _-_, _/_, _%_, _≤_, _<_}
+use mathlib.Core.Path.{_≡_, refl, sym, ap, _∙_}
+use mathlib.Core.Bool.{Bool, true, false, _&&_, and-assoc, and-false}
+use mathlib.Core.List.{List, [], _∷_, _++_, append-assoc}
+use native.Mathlib.Omega.{arith}
+use native.Mathlib.Decide.{decLt}
+use native.Mathlib.Numerals.{add-one}
+use lib.Dec.{leb, ltb}
+use lib.ListN.{length, getD, take, drop, set}
+use lib.Seq.{drop-cons, sets-eq}
+use borrow.Author.Tests.{leb-true, le-leb, lt-leb, lt-ltb, le-ltb}
+use Rattle.wire.specs.Choose.{choose}
+use Rattle.wire.specs.Buffer.{put}
+use Rattle.wire.proofs.Cases.{cases, by-choice}
+use Rattle.figures.specs.Figure.{upperHex, none, noByte, inRange, figureOf, charOf, allFigures, pairByte, pairOf}
+
+-- two tests that hold together hold each
+pub both : (a b : Bool) → (a && b) ≡ true → (a ≡ true) × (b ≡ true)
+both true b h = (refl, h)
+both false b h = (h, let z : _≡_ {A = ℕ} 0 1 = cc in let n : ⊥ = omega arith in absurd n)
+
+-- a range's two bounds
+pub in-range : (lo hi b : ℕ) → inRange lo hi b ≡ true → (lo ≤ b) × (b ≤ hi)
+unfolding inRange
+in-range lo hi b h =
+    let t = both (leb lo b) (leb b hi) h in
+    (leb-true lo b (t .0), leb-true b hi (t .1))
+
+-- within both bounds
+in-range-yes : (lo hi b : ℕ) → lo ≤ b → b ≤ hi → inRange lo hi b ≡ true
+unfolding inRange
+in-range-yes lo hi b l h = rw (le-leb lo b l, le-leb b hi h)
+
+-- above the upper bound
+in-range-above : (lo hi b : ℕ) → hi < b → inRange lo hi b ≡ false
+unfolding inRange
+in-range-above lo hi b h = rw (lt-leb b hi h) (and-false (leb lo b))
+
+-- a figure is at most the mark for none
+pub figure-at-most : (b : ℕ) → figureOf b ≤ none
+unfolding figureOf
+figure-at-most b =
+    by-choice (λ n. n ≤ none) _ _ _
+    (λ d. omega (arith, in-range 48 57 b d))
+    (λ _. by-choice (λ n. n ≤ none) _ _ _
+    (λ u. omega (arith, in-range 65 70 b u))
+    (λ _. by-choice (λ n. n ≤ none) _ _ _
+    (λ l. omega (arith, in-range 97 102 b l))
+    (λ _. omega arith)))
+
+-- the character of a decimal figure
+pub char-decimal : (v : ℕ) → v < 10 → charOf v ≡ 48 + v
+unfolding charOf
+char-decimal v h = sym (search cases)
+
+-- a value's character is read as the value
+pub figure-char : (v : ℕ) → v < 16 → figureOf (charOf v) ≡ v
+unfolding figureOf charOf choose
+figure-char v h = by (decLt v 10)
+  where
+    by : Dec (v < 10) → figureOf (charOf v) ≡ v
+    by (yes d) = simp (lt-ltb v 10 d, in-range-yes 48 57 (48 + v) (omega arith) (omega arith)) (omega arith)
+    by (no n) =
+        let x = 65 + (v - 10) in
+        simp (le-ltb v 10 (omega arith), in-range-above 48 57 x (omega arith), in-range-yes 65 70 x (omega arith) (omega arith)) (omega arith)
+
+-- one character more
+pub all-next : (limit : ℕ) (s : List ℕ) (i : ℕ) (all : Bool) → i < length s
+    → (all && allFigures limit (drop i s)) ≡ ((all && ltb (figureOf (getD s i 0)) limit) && allFigures limit (drop (suc i) s))
+unfolding allFigures
+all-next limit s i all h = rw (drop-cons s i 0 h) (sym (and-assoc all (ltb (figureOf (getD s i 0)) limit) (allFigures limit (drop (suc i) s))))
+
+-- two lists, one after the other
+pub all-append : (limit : ℕ) (s t : List ℕ) → allFigures limit (s ++ t) ≡ (allFigures limit s && allFigures limit t)
+unfolding allFigures
+all-append limit [] t = refl
+all-append limit (x ∷ s) t =
+    ap (λ (b : Bool). ltb (figureOf x) limit && b) (all-append limit s t) ∙ sym (and-assoc (ltb (figureOf x) limit) (allFigures limit s) (allFigures limit t))
+
+-- a pair is a byte, or the mark for none
+pub pair-at-most : (limit high low : ℕ) → pairByte limit high low ≤ noByte
+unfolding pairByte
+pair-at-most limit high low =
+    by-choice (λ n. n ≤ noByte) _ _ _
+    (λ _. omega arith)
+    (λ _. by-choice (λ n. n ≤ noByte) _ _ _
+    (λ _. omega arith)
+    (λ _. omega arith))
+
+-- a pair is two characters
+pub pair-length : (v : ℕ) → length (pairOf v) ≡ 2
+unfolding pairOf
+pair-length v = refl
+
+-- a byte's pair is read as the byte, by the upper-case limit and by any above it
+pub pair-round-trip : (limit v : ℕ) → upperHex ≤ limit → v < noByte → pairByte limit (getD (pairOf v) 0 0) (getD (pairOf v) 1 0) ≡ v
+unfolding pairByte pairOf choose
+pair-round-trip limit v l h =
+    simp (figure-char (v / 16) (omega arith), figure-char (v % 16) (omega arith), lt-leb limit (v / 16) (omega arith), lt-leb limit (v % 16) (omega arith)) (omega arith)
+
+-- two stores are a list of two, put there
+pub put-two : (d : List ℕ) (at x y : ℕ) → at + 2 ≤ length d → set (set d at x) (at + 1) y ≡ put d at (x ∷ y ∷ [])
+unfolding put
+put-two d at x y h = rw add-one (sets-eq (x ∷ y ∷ []) d at h ∙ append-assoc (take at d) (x ∷ y ∷ []) (drop (at + 2) d))

@@ -1,0 +1,12 @@
+-- `figures::in_range` meets its contract: the code is the definition. Assumes nothing.
+use mathlib.Core.Path.{refl}
+use Rattle.figures.specs.Figure.{inRange}
+use Rattle.figures.proofs.in_range.Statement.{statement}
+use Rattle.figures.proofs.in_range.Tie as tie
+
+returns : tie.Need-returns
+unfolding inRange
+returns c = refl
+
+pub in-range-spec : {M : Type 1} → statement M
+in-range-spec = tie.close (tie.spec returns)

@@ -1,0 +1,225 @@
+// Hex figures, decimal figures and signed words: read from characters and written as characters.
+ghost use mathlib.Core.Path.{_≡_};
+ghost use Prim.Native.Nat.{_+_, _<_, _≤_};
+ghost use lib.ListN.{length};
+ghost use Rattle.wire.specs.Buffer.{put};
+ghost use Rattle.figures.specs.Figure.{inRange, figureOf, charOf, allFigures, pairByte, pairOf};
+ghost use Rattle.figures.specs.Decimal.{digits, sizeOf, valueOf, longestValue};
+ghost use Rattle.figures.specs.Signed.{isNegative, magnitude, withSign, longestText, textOf, figuresOf, parsedOf};
+
+// A figure below DECIMAL is a decimal one, below UPPER_HEX an upper-case hex one, below HEX a hex one of either case.
+pub const DECIMAL: u8 = 10;
+
+pub const UPPER_HEX: u8 = 16;
+
+pub const HEX: u8 = 32;
+
+// What lower case adds to a figure.
+const LOWER: u8 = 16;
+
+// The mark for a character that is no figure.
+const NONE: u8 = 32;
+
+// The mark for two characters that are no byte.
+pub const NO_BYTE: u32 = 256;
+
+// The sign before a negative number's figures.
+const MINUS: u8 = b'-';
+
+// The words from here on are the negative numbers.
+const HALF: u32 = 2147483648;
+
+fn in_range(lo: u8, hi: u8, b: u8) -> bool
+    ensures { λ r. ⌜ r ≡ inRange lo hi b ⌝ }
+{
+    (lo <= b) & (b <= hi)
+}
+
+// What a received character means as a figure. Nothing else in the card decides this.
+pub fn figure(b: u8) -> u8
+    ensures { λ r. ⌜ r ≡ figureOf b ⌝ }
+{
+    if in_range(b'0', b'9', b) {
+        return b - b'0';
+    }
+    if in_range(b'A', b'F', b) {
+        return 10 + (b - b'A');
+    }
+    if in_range(b'a', b'f', b) {
+        return LOWER + (10 + (b - b'a'));
+    }
+    NONE
+}
+
+// The upper-case character of a figure's value.
+pub fn figure_char(v: u8) -> u8
+    requires { ⌜ v < 16 ⌝ }
+    ensures { λ r. ⌜ r ≡ charOf v ⌝ }
+{
+    if v < 10 {
+        return b'0' + v;
+    }
+    b'A' + (v - 10)
+}
+
+// Whether every character of s is a figure below limit.
+pub fn all_figures(s: &[u8], limit: u8) -> bool
+    ensures { λ r. ⌜ r ≡ allFigures limit (now (s .entry)) ⌝ }
+{
+    let mut all = true;
+    let mut i = 0;
+    while i < s.len() {
+        let f = figure(s[i]);
+        all = all & (f < limit);
+        i += 1;
+    }
+    all
+}
+
+// The byte that two characters are, both of them figures below limit, or NO_BYTE.
+pub fn pair_byte(high: u8, low: u8, limit: u8) -> u32
+    ensures { λ r. ⌜ r ≡ pairByte limit high low ⌝ }
+{
+    let h = figure(high);
+    if limit <= h {
+        return NO_BYTE;
+    }
+    let l = figure(low);
+    if limit <= l {
+        return NO_BYTE;
+    }
+    16 * ((h % 16) as u32) + ((l % 16) as u32)
+}
+
+// Writes the two upper-case characters of v.
+pub fn put_pair(out: &mut [u8], at: usize, v: u8)
+    requires { ⌜ at + 2 ≤ length (now out) ⌝ }
+    ensures { λ _. ⌜ now (out .exit) ≡ put (now (out .entry)) at (pairOf v) ⌝ }
+{
+    out[at] = figure_char(v / 16);
+    out[at + 1] = figure_char(v % 16);
+}
+
+// Writes the last k decimal figures of n, leading zeros too.
+pub fn put_digits(out: &mut [u8], at: usize, k: usize, n: u32)
+    requires { ⌜ at + k ≤ length (now out) ⌝ }
+    ensures { λ _. ⌜ now (out .exit) ≡ put (now (out .entry)) at (digits k n) ⌝ }
+{
+    let mut v = n;
+    let mut j = k;
+    while 0 < j {
+        j -= 1;
+        out[at + j] = figure_char((v % 10) as u8);
+        v /= 10;
+    }
+}
+
+// How many figures the shortest decimal of n has.
+pub fn size(n: u32) -> usize
+    ensures { λ r. ⌜ r ≡ sizeOf n ⌝ }
+{
+    let mut v = n;
+    let mut k: usize = 1;
+    while 10 <= v {
+        v /= 10;
+        k += 1;
+    }
+    k
+}
+
+// The value of a run of decimal figures.
+pub fn value(s: &[u8]) -> u64
+    requires { ⌜ length (now s) ≤ longestValue ⌝ }
+    ensures { λ r. ⌜ r ≡ valueOf (now (s .entry)) ⌝ }
+{
+    let mut v: u64 = 0;
+    let mut i = 0;
+    while i < s.len() {
+        v = v * 10 + figure(s[i]) as u64;
+        i += 1;
+    }
+    v
+}
+
+pub fn is_negative(w: u32) -> bool
+    ensures { λ r. ⌜ r ≡ isNegative w ⌝ }
+{
+    HALF <= w
+}
+
+// A signed word's number without its sign.
+pub fn magnitude(w: u32) -> u32
+    ensures { λ r. ⌜ r ≡ magnitude w ⌝ }
+{
+    if is_negative(w) {
+        return u32::MAX - w + 1;
+    }
+    w
+}
+
+// The word of m, or of minus m; minus zero is zero.
+pub fn with_sign(negative: bool, m: u32) -> u32
+    ensures { λ r. ⌜ r ≡ withSign negative m ⌝ }
+{
+    if !negative {
+        return m;
+    }
+    if m == 0 {
+        return 0;
+    }
+    u32::MAX - m + 1
+}
+
+// Writes a signed word as its shortest decimal and gives the number of characters.
+pub fn put_text(out: &mut [u8], at: usize, w: u32) -> usize
+    requires { ⌜ at + longestText ≤ length (now out) ⌝ }
+    ensures { λ r. ⌜ (r ≡ length (textOf w)) × (now (out .exit) ≡ put (now (out .entry)) at (textOf w)) ⌝ }
+{
+    let m = magnitude(w);
+    let k = size(m);
+    if is_negative(w) {
+        out[at] = MINUS;
+        put_digits(out, at + 1, k, m);
+        return k + 1;
+    }
+    put_digits(out, at, k, m);
+    k
+}
+
+// What a signed decimal is read as.
+pub enum Parsed {
+    Value(u32),
+    Wrong,
+}
+
+// At least one decimal figure and nothing else, read with a sign.
+fn parse_figures(s: &[u8], negative: bool, bound: u32) -> Parsed
+    requires { ⌜ length (now s) ≤ longestValue ⌝ }
+    ensures { λ r. ⌜ r ≡ figuresOf bound negative (now (s .entry)) ⌝ }
+{
+    if s.len() == 0 {
+        return Parsed::Wrong;
+    }
+    if !all_figures(s, DECIMAL) {
+        return Parsed::Wrong;
+    }
+    let v = value(s);
+    if (bound as u64) < v {
+        return Parsed::Wrong;
+    }
+    Parsed::Value(with_sign(negative, v as u32))
+}
+
+// An optional minus, then at least one decimal figure and nothing else, with a magnitude of at most bound.
+pub fn parse(s: &[u8], bound: u32) -> Parsed
+    requires { ⌜ length (now s) ≤ longestValue ⌝ }
+    ensures { λ r. ⌜ r ≡ parsedOf bound (now (s .entry)) ⌝ }
+{
+    if s.len() == 0 {
+        return Parsed::Wrong;
+    }
+    if s[0] == MINUS {
+        return parse_figures(&s[1..], true, bound);
+    }
+    parse_figures(s, false, bound)
+}
