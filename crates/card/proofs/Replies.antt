@@ -13,7 +13,7 @@ use Rattle.wire.proofs.Buffers.{overlay-none}
 use Rattle.card.specs.Numbers.{bufferShort, cardUnfit}
 use Rattle.card.specs.Layout.{Card}
 use Rattle.card.specs.Tables.{fit}
-use Rattle.card.specs.Reply.{Reply, WordsReply, onWords, silent, shell, guarded, Keeps, Gave, GaveWords, Did}
+use Rattle.card.specs.Reply.{Reply, WordsReply, onWords, silent, shell, guarded, Keeps, Gave, GaveWords, Wrote, Did}
 
 -- a number alone: nothing written, no table changed
 pub did-silent : (number : ℕ) (card : Card) → Did (silent number card) number (card .words) (card .memory) (card .pending)
@@ -75,3 +75,7 @@ shell-keeps least card room reply k =
 pub guarded-keeps : (card : Card) (reply : Reply) → Keeps card reply → Keeps card (guarded card reply)
 unfolding guarded
 guarded-keeps card reply k = by-choice (Keeps card) (fit card) _ _ (λ _. k) (λ _. keeps-silent cardUnfit card)
+
+-- bytes known under another name
+pub wrote-as : {out out′ : List ℕ} {len : ℕ} (a b : List ℕ) → a ≡ b → Wrote a out len out′ → Wrote b out len out′
+wrote-as {out} {out′} {len} a b e = subst (λ (x : List ℕ). Wrote x out len out′) e

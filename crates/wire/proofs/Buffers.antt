@@ -6,8 +6,8 @@ use native.Mathlib.Nat.{add-zero, zero-add}
 use native.Mathlib.Numerals.{add-one}
 use native.Mathlib.Omega.{arith}
 use lib.ListN.{length, take, drop, set, getD, length-append, length-drop, length-take}
-use lib.Seq.{take-append-seam, drop-append-add, drop-append-seam, set-append-seam, drop-drop, drop-cons, take-append-le, sets, sets-eq}
-use Rattle.wire.specs.Buffer.{put, overlay}
+use lib.Seq.{take-append-seam, drop-append-add, set-append-seam, drop-drop, drop-cons, take-add, take-all, sets, sets-eq}
+use Rattle.wire.specs.Buffer.{put, overlay, part}
 
 pub overlay-none : (out : List ℕ) → overlay [] out ≡ out
 unfolding overlay
@@ -48,3 +48,18 @@ put-sets vs d at h = sets-eq vs d at h ∙ append-assoc (take at d) vs (drop (at
 pub length-put : (d : List ℕ) (at : ℕ) (vs : List ℕ) → at + length vs ≤ length d → length (put d at vs) ≡ length d
 unfolding put
 length-put d at vs h = simp (length-append, length-take, length-drop) (omega arith)
+
+-- two parts that meet
+pub part-append : (s : List ℕ) (a b e : ℕ) → a ≤ b → b ≤ e → part s a b ++ part s b e ≡ part s a e
+part-append s a b e h k =
+    let n : e - a ≡ (b - a) + (e - b) = omega arith in
+    let m : b ≡ a + (b - a) = omega arith in
+    sym (ap (λ (x : ℕ). take x (drop a s)) n ∙ take-add (b - a) (e - b) (drop a s)
+    ∙ ap (λ (l : List ℕ). take (b - a) (drop a s) ++ take (e - b) l) (drop-drop (b - a) a s ∙ ap (λ (x : ℕ). drop x s) (sym m)))
+
+pub length-part : (s : List ℕ) (a e : ℕ) → a ≤ e → e ≤ length s → length (part s a e) ≡ e - a
+length-part s a e h k = simp (length-take, length-drop) (omega arith)
+
+-- a part to the end is what is left
+pub part-rest : (s : List ℕ) (a : ℕ) → part s a (length s) ≡ drop a s
+part-rest s a = take-all (length s - a) (drop a s) (rw length-drop (omega arith))

@@ -2,8 +2,8 @@
 
 /// First words of all calls (docs/CONSOLE.md, "Calls").
 pub const CALLS: [&str; 14] = [
-    "probe", "restart", "governor", "datalink", "lecom", "love", "lucid", "save", "load",
-    "request", "step", "poke", "peek", "help",
+    "probe", "restart", "governor", "datalink", "lecom", "love", "lucid", "save", "load", "request", "step", "poke",
+    "peek", "help",
 ];
 
 /// What stands before the list in a `help` line, and between two calls.
@@ -26,9 +26,7 @@ impl Listed {
 
     /// Whether scripts may use a call.
     pub fn has(&self, call: &str) -> bool {
-        self.usages
-            .iter()
-            .any(|usage| usage.split(' ').next() == Some(call))
+        self.usages.iter().any(|usage| usage.split(' ').next() == Some(call))
     }
 
     /// Whether these usages are all among the other's, in the same order.

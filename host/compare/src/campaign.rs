@@ -1,7 +1,8 @@
 //! The whole comparison: scripts of all sections in turn, and what came up in them.
 
-use std::time::Instant;
+use std::time::{Duration, Instant};
 
+use crate::calls::Listed;
 use crate::entries::Entry;
 use crate::judge::{Finding, Judge};
 use crate::minimise::minimise;
@@ -10,6 +11,17 @@ use crate::report;
 use crate::sections::{Scribe, Section, SECTIONS};
 use crate::tally::Tally;
 use crate::writer::Line;
+
+/// How long a failing script is made shorter; then it is shown as it is.
+const SHORTENING_LIMIT: Duration = Duration::from_secs(60);
+
+/// What was compared so far.
+#[derive(Default)]
+struct Total {
+    tally: Tally,
+    scripts: usize,
+    lines: usize,
+}
 
 /// Compares the programs; false if something was found or a number is missing.
 pub fn run(options: &Options) -> Result<bool, String> {
@@ -27,65 +39,91 @@ pub fn run(options: &Options) -> Result<bool, String> {
         .filter(|section| options.section.as_deref().is_none_or(|name| name == section.name))
         .filter(|section| section.is_possible(&listed))
         .collect();
-    let share = options.calls.div_ceil(sections.len().max(1));
+    if sections.is_empty() {
+        return Err("the console lists too few calls".to_owned());
+    }
+    let mut total = Total::default();
+    if let Some(report) = compare(options, &judge, &listed, &sections, &mut total)? {
+        print!("{report}");
+        return Ok(false);
+    }
+    let faults = total.tally.faults(&wanted(&sections, &listed), &listed);
+    print!("{}", total.tally);
+    for fault in &faults {
+        println!("{fault}");
+    }
+    let Total { scripts, lines, .. } = total;
+    let (seed, seconds) = (options.seed, started.elapsed().as_secs());
+    println!("seed {seed}: {scripts} scripts of {lines} lines agree, in {seconds} s");
+    Ok(faults.is_empty())
+}
+
+/// The entries whose every number the sections must bring up.
+fn wanted(sections: &[&Section], listed: &Listed) -> Vec<Entry> {
+    sections
+        .iter()
+        .flat_map(|section| section.entries.iter().copied())
+        .filter(|entry| listed.has(entry.call()))
+        .collect()
+}
+
+/// Runs the sections' scripts in turn; reports the first finding.
+fn compare(
+    options: &Options,
+    judge: &Judge,
+    listed: &Listed,
+    sections: &[&Section],
+    total: &mut Total,
+) -> Result<Option<String>, String> {
+    let weights: usize = sections.iter().map(|section| section.weight).sum();
     let mut scribes: Vec<Scribe> = sections
         .iter()
-        .map(|section| Scribe::new(section, &listed, options.seed, share))
+        .map(|section| {
+            let calls = options.calls.saturating_mul(section.weight).div_ceil(weights);
+            Scribe::new(section, listed, options.seed, calls)
+        })
         .collect();
-    let mut tally = Tally::default();
-    let mut lines = 0;
-    let mut scripts = 0;
     loop {
-        let before = scripts;
+        let before = total.scripts;
         for scribe in &mut scribes {
             let Some(script) = scribe.script() else {
                 continue;
             };
-            scripts += 1;
-            lines += script.len();
+            total.scripts += 1;
+            total.lines += script.len();
             let script: Vec<&Line> = script.iter().collect();
-            let is_watched = scribe.section.is_followed;
-            if let Some(finding) = judge.judge(&script, is_watched, &mut tally)? {
-                println!("section {}, seed {}", scribe.section.name, options.seed);
-                print!("{}", shortest(&judge, &script, is_watched, finding));
-                return Ok(false);
+            let Section { name, is_followed, .. } = *scribe.section;
+            if let Some(finding) = judge.judge(&script, is_followed, &mut total.tally)? {
+                let shown = shortest(judge, &script, is_followed, finding);
+                return Ok(Some(format!("section {name}, seed {}\n{shown}", options.seed)));
             }
         }
-        if scripts == before {
-            break;
+        if total.scripts == before {
+            return Ok(None);
         }
     }
-    let entries: Vec<Entry> = sections
-        .iter()
-        .flat_map(|section| section.entries.iter().copied())
-        .filter(|entry| listed.has(entry.call()))
-        .collect();
-    let faults = tally.faults(&entries, &listed);
-    print!("{tally}");
-    for fault in &faults {
-        println!("{fault}");
-    }
-    println!(
-        "seed {}: {scripts} scripts of {lines} lines agree, in {} s",
-        options.seed,
-        started.elapsed().as_secs()
-    );
-    Ok(faults.is_empty())
 }
 
 /// Makes a failing script short and tells what is wrong with it.
-fn shortest(judge: &Judge, script: &[&Line], is_watched: bool, finding: Finding) -> String {
-    let (Finding::Difference { line, .. } | Finding::Clause { line, .. }) = finding;
-    let last = (line + 1).min(script.len());
+fn shortest(judge: &Judge, script: &[&Line], is_exchange: bool, finding: Finding) -> String {
+    let started = Instant::now();
+    let end = (finding.line() + 1).min(script.len());
     let mut found = finding;
-    let kept = minimise(script[..last].to_vec(), |fewer| {
-        match judge.judge(fewer, is_watched, &mut Tally::default()) {
+    let mut fails = |fewer: &[&Line]| {
+        if started.elapsed() > SHORTENING_LIMIT {
+            return false;
+        }
+        match judge.judge(fewer, is_exchange, &mut Tally::default()) {
             Ok(Some(finding)) => {
                 found = finding;
                 true
             }
             _ => false,
         }
-    });
+    };
+    // A program that stops may have answered less than it had read, so the lines that follow can be needed.
+    let begun = &script[..end];
+    let whole = if fails(begun) { begun } else { script };
+    let kept = minimise(whole.to_vec(), fails);
     report::tell(&found, &kept)
 }

@@ -52,13 +52,10 @@ pub struct Place {
     pub place: usize,
 }
 
-/// Every entry that document 01 gives a range, table by table.
-pub fn ranged_places() -> Vec<Place> {
+/// Every entry of the short tables that document 01 gives a range.
+pub fn short_places() -> Vec<Place> {
     let tables = [
         ("address", 3),
-        ("buffer", REGISTERS),
-        ("operational", REGISTERS),
-        ("saved", REGISTERS),
         ("love", LOVE_PARAMETERS),
         ("demand", CHANNELS),
         ("parameter", PARAMETERS),
@@ -68,6 +65,21 @@ pub fn ranged_places() -> Vec<Place> {
         .iter()
         .flat_map(|&(table, places)| (0..places).map(move |place| Place { table, place }))
         .collect()
+}
+
+/// Every register of the three copies, from both ends to the middle.
+pub fn register_places() -> Vec<Place> {
+    let inward = (0..REGISTERS / 2).flat_map(|place| [place, REGISTERS - 1 - place]);
+    inward
+        .flat_map(|place| ["buffer", "operational", "saved"].map(|table| Place { table, place }))
+        .collect()
+}
+
+/// Every entry that document 01 gives a range.
+pub fn ranged_places() -> Vec<Place> {
+    let mut places = short_places();
+    places.extend(register_places());
+    places
 }
 
 impl Place {
@@ -87,11 +99,23 @@ impl Place {
     /// The lowest and highest value that can be poked.
     fn holds(self) -> (i64, i64) {
         match self.table {
-            "buffer" | "operational" | "saved" | "love" => {
-                (i64::from(i32::MIN), i64::from(i32::MAX))
-            }
+            "buffer" | "operational" | "saved" | "love" => (i64::from(i32::MIN), i64::from(i32::MAX)),
             _ => (0, i64::from(u32::MAX)),
         }
+    }
+
+    /// Values on both sides of each limit.
+    pub fn limits(self) -> Vec<i64> {
+        let (lowest, highest) = self.range();
+        let (least, most) = self.holds();
+        let mut values = vec![lowest - 1, lowest, highest, highest + 1];
+        match (self.table, self.place) {
+            ("address", 1) => values.extend([1, 19, 20, 21, 90, 110, 111]),
+            ("address", 2) => values.extend([0xFF, 0x100, 0x101, 0x200, 0x300, 0x401]),
+            _ => {}
+        }
+        values.retain(|value| (least..=most).contains(value));
+        values
     }
 
     /// A value inside its range.
@@ -106,27 +130,25 @@ impl Place {
         }
     }
 
-    /// Any value that can be poked: range ends, one past them, the type's ends, inside and wild.
+    /// Any value that can be poked: at a limit, around one, inside, the type's ends, wild, or a fit one that lost
+    /// its place in a wider type.
     pub fn any_value(self, rng: &mut Rng) -> i64 {
         let (lowest, highest) = self.range();
         let (least, most) = self.holds();
-        let inner = match (self.table, self.place) {
-            ("address", 1) => 10 * rng.between(0, 11),
-            ("address", 2) => 0x100 * rng.between(0, 5),
-            _ => rng.between(lowest, highest),
-        };
+        let fit = self.fit_value(rng);
         let near = rng.between(2, 100);
+        let bit = rng.pick(&[8, 10, 16, 24, 31]);
         let choices = [
-            lowest,
-            highest,
-            lowest - 1,
-            highest + 1,
+            rng.pick(&self.limits()),
+            rng.pick(&self.limits()),
             lowest - near,
             highest + near,
             least,
             most,
-            inner,
-            self.fit_value(rng),
+            fit,
+            fit + (1 << bit),
+            (1 << bit) - 1,
+            1 << bit,
             rng.between(least, most),
         ];
         rng.pick(&choices).clamp(least, most)

@@ -4,21 +4,13 @@
 //! holds: a request that 7 does not refuse, answers that the frame last sent got in its round, and no other change or
 //! acknowledge that was accepted, nor a poke. So any part of a script can be watched.
 
-use crate::card::{MEMORY_END, MEMORY_PLACES, MEMORY_START, WRITABLE_START};
+use crate::card::{IA_MOST, MEMORY_END, MEMORY_PLACES, MEMORY_START, WRITABLE_START};
 use crate::frames::datalink::{ACKNOWLEDGE, CHANGE, CHANGE_BITS, COMMAND_FIELD};
+use crate::master::{ADDRESS_END, ARRIVALS_MOST, BITS_MOST, BYTES_MOST, ROUNDS};
 use crate::text::{bytes_of, number, words};
 
-/// Arrivals of a frame in its round; any further one is another frame.
-const ARRIVALS_MOST: usize = 2;
-/// Rounds of an exchange: change, acknowledge, interrogate.
-const ROUNDS: usize = 3;
 /// The first writable entry of the memory.
 const WRITABLE: usize = (WRITABLE_START - MEMORY_START) as usize;
-/// Limits of a request that 7 does not refuse.
-const IA_MOST: i64 = 31;
-const BYTES_MOST: usize = 32;
-const BITS_MOST: usize = 16;
-const ADDRESS_END: i64 = 65_536;
 
 /// What a request asks, as masks and states: a data byte has mask 00h.
 struct Asked {
@@ -148,8 +140,7 @@ impl Exchange {
     /// A restart: it counts between the first arrivals of change and acknowledge.
     fn restart(&mut self) {
         let after_change = self.closed.len() == 1 || self.arrivals > 0;
-        let before_acknowledge =
-            self.closed.is_empty() || (self.closed.len() == 1 && self.arrivals == 0);
+        let before_acknowledge = self.closed.is_empty() || (self.closed.len() == 1 && self.arrivals == 0);
         self.is_restarted_between |= after_change && before_acknowledge;
     }
 
@@ -159,11 +150,7 @@ impl Exchange {
         if !is_lossless || self.is_restarted_between || !self.asked.is_writable() {
             return Ok(());
         }
-        let expected: &[u8] = if self.closed.len() < ROUNDS {
-            b"open"
-        } else {
-            b"done"
-        };
+        let expected: &[u8] = if self.closed.len() < ROUNDS { b"open" } else { b"done" };
         if self.says == expected {
             return Ok(());
         }
@@ -229,10 +216,7 @@ impl Watch {
 
     /// The memory is shown.
     fn see_memory(&mut self, answer: &[&[u8]]) -> Result<(), String> {
-        let shown: Option<Vec<u8>> = answer
-            .iter()
-            .map(|word| u8::try_from(number(word)?).ok())
-            .collect();
+        let shown: Option<Vec<u8>> = answer.iter().map(|word| u8::try_from(number(word)?).ok()).collect();
         self.memory = shown.filter(|memory| memory.len() == MEMORY_PLACES);
         match (&self.exchange, &self.memory) {
             (Some(exchange), Some(memory)) => exchange.check_memory(memory),
@@ -282,5 +266,166 @@ impl Watch {
             }
             _ => {}
         }
+    }
+}
+
+#[cfg(test)]
+mod tests {
+    use super::*;
+    use crate::model::Model;
+    use crate::text::hex_words;
+
+    const ECHO: &str = "datalink 38 7E A3 02 10 10 01 02 C8";
+    const ACKNOWLEDGED: &str = "datalink 38 7E 83";
+    const READ_BACK: &str = "datalink 38 7E E3 02 10 10 05";
+
+    /// A watch over the model's answers.
+    struct Followed {
+        model: Model,
+        watch: Watch,
+    }
+
+    impl Followed {
+        /// An exchange that asks for bytes 01h and 02h at 1010h.
+        fn new() -> Self {
+            let mut followed = Self {
+                model: Model::new(),
+                watch: Watch::default(),
+            };
+            followed.take("peek memory");
+            followed.take("request change 3 4112 01 02");
+            followed
+        }
+
+        /// Carries a line out and shows it to the watch, then the memory.
+        fn take(&mut self, line: &str) -> String {
+            let answer = self.model.line(line.as_bytes());
+            self.watch.see(line.as_bytes(), answer.as_bytes()).unwrap();
+            let memory = self.model.line(b"peek memory");
+            self.watch.see(b"peek memory", memory.as_bytes()).unwrap();
+            answer
+        }
+
+        /// The change, its acknowledge and the interrogate arrive; gives the line of the last step.
+        fn reach_last_step(&mut self) -> String {
+            self.take("step 38");
+            let echo = self.take(ECHO);
+            self.take(&format!("step 38{}", &echo[1..]));
+            self.take(ACKNOWLEDGED);
+            self.take("step 38");
+            let read_back = self.take(READ_BACK);
+            format!("step 38{}", &read_back[1..])
+        }
+
+        /// What the watch says to an answer that the model did not give.
+        fn see(&mut self, line: &str, answer: &str) -> Result<(), String> {
+            self.watch.see(line.as_bytes(), answer.as_bytes())
+        }
+
+        /// What the watch says to a memory with one byte changed.
+        fn see_byte(&mut self, place: usize, value: u8) -> Result<(), String> {
+            let memory = self.model.line(b"peek memory");
+            let mut entries: Vec<&str> = memory.split(' ').collect();
+            let value = value.to_string();
+            entries[place] = &value;
+            self.see("peek memory", &entries.join(" "))
+        }
+    }
+
+    #[test]
+    fn a_lossless_exchange_breaks_no_clause() {
+        let mut followed = Followed::new();
+        let last = followed.reach_last_step();
+        assert_eq!(followed.take(&last), "1 done");
+        assert!(followed.watch.exchange.is_some());
+    }
+
+    #[test]
+    fn lossless_rounds_must_end_in_done() {
+        let mut followed = Followed::new();
+        let last = followed.reach_last_step();
+        assert!(followed.see(&last, "1 unknown").is_err());
+    }
+
+    #[test]
+    fn the_master_must_not_give_up_before_the_end() {
+        let mut followed = Followed::new();
+        followed.take("step 38");
+        let echo = followed.take(ECHO);
+        let second = format!("step 38{}", &echo[1..]);
+        assert!(followed.see(&second, "1 unknown").is_err());
+    }
+
+    #[test]
+    fn half_a_change_breaks_a_clause() {
+        let mut followed = Followed::new();
+        followed.reach_last_step();
+        assert!(followed.see_byte(17, 0).is_err());
+    }
+
+    #[test]
+    fn another_writable_byte_must_stay() {
+        let mut followed = Followed::new();
+        assert!(followed.see_byte(15, 9).is_ok());
+        assert!(followed.see_byte(18, 9).is_err());
+    }
+
+    #[test]
+    fn nothing_changes_before_the_acknowledge() {
+        let mut followed = Followed::new();
+        followed.take("step 38");
+        followed.take(ECHO);
+        let mut memory = vec!["0"; MEMORY_PLACES];
+        memory[16] = "1";
+        memory[17] = "2";
+        assert!(followed.see("peek memory", &memory.join(" ")).is_err());
+    }
+
+    #[test]
+    fn done_needs_every_byte_as_asked() {
+        let mut followed = Followed::new();
+        followed.take("step 38");
+        let echo = followed.take(ECHO);
+        followed.take(&format!("step 38{}", &echo[1..]));
+        followed.take("step 38");
+        let read_back = followed.take(READ_BACK);
+        let last = format!("step 38{}", &read_back[1..]);
+        assert!(followed.see(&last, "1 done").is_ok());
+        let memory = followed.model.line(b"peek memory");
+        assert!(followed.see("peek memory", &memory).is_err());
+    }
+
+    #[test]
+    fn what_breaks_the_premise_ends_the_watch() {
+        let others = ["datalink 38 7E A3 00 10 10 C3", "poke memory 100 1", "step 38 00"];
+        for other in others {
+            let mut followed = Followed::new();
+            followed.take("step 38");
+            followed.take(other);
+            assert!(followed.watch.exchange.is_none(), "{other}");
+        }
+        let mut followed = Followed::new();
+        followed.take("step 38");
+        followed.take("datalink 38 7E E3 00 10 10 03");
+        followed.take("restart");
+        assert!(followed.watch.exchange.is_some());
+    }
+
+    #[test]
+    fn requests_that_7_refuses_are_not_watched() {
+        let bytes = hex_words(&[0; BYTES_MOST + 1]);
+        let refused = [
+            "change 32 4112 01".to_owned(),
+            "change 3 65536".to_owned(),
+            "change 3 65535 01 02".to_owned(),
+            "bits 3 4112 01 / 01 02".to_owned(),
+            format!("change 3 4112{bytes}"),
+        ];
+        for line in &refused {
+            let rest: Vec<&[u8]> = words(line.as_bytes()).collect();
+            assert!(Asked::read(&rest).is_none(), "{line}");
+        }
+        let rest: Vec<&[u8]> = words(b"change 3 65535 01").collect();
+        assert!(Asked::read(&rest).is_some());
     }
 }

@@ -53,9 +53,7 @@ impl Entry {
 
     /// The entry that a call reaches, if any.
     pub fn of_call(call: &[u8]) -> Option<Self> {
-        Self::ALL
-            .into_iter()
-            .find(|entry| entry.call().as_bytes() == call)
+        Self::ALL.into_iter().find(|entry| entry.call().as_bytes() == call)
     }
 
     /// The numbers that can come up.
@@ -78,10 +76,7 @@ impl Entry {
     pub fn marks(self) -> Option<(&'static str, &'static [&'static str])> {
         match self {
             Self::Love => Some(("error code", &["01", "02", "04", "05", "06"])),
-            Self::Lucid => Some((
-                "status",
-                &["A0", "B0", "B2", "B4", "B6", "B8", "BA", "C0", "D0"],
-            )),
+            Self::Lucid => Some(("status", &["A0", "B0", "B2", "B4", "B6", "B8", "BA", "C0", "D0"])),
             Self::Step => Some(("says", &["open", "done", "unknown"])),
             _ => None,
         }

@@ -4,10 +4,14 @@ use std::path::{Path, PathBuf};
 
 use crate::calls::Listed;
 use crate::clauses::Watch;
-use crate::program::{run, run_both, End, Run};
+use crate::program::{ask, run_both, End, Run};
+use crate::stillness::Stillness;
 use crate::tally::Tally;
 use crate::text::is_silent;
 use crate::writer::Line;
+
+/// The line that lists the calls.
+const HELP: &str = "help\n";
 
 /// What is wrong with a script's answers.
 #[derive(Clone, PartialEq, Eq, Debug)]
@@ -31,6 +35,15 @@ pub enum Finding {
     },
 }
 
+impl Finding {
+    /// The place of the line in question.
+    pub fn line(&self) -> usize {
+        match self {
+            Self::Difference { line, .. } | Self::Clause { line, .. } => *line,
+        }
+    }
+}
+
 /// The two programs, and what the scripts need to know of them.
 pub struct Judge {
     console: PathBuf,
@@ -46,8 +59,8 @@ impl Judge {
         let console = find(console)?;
         let reference = find(reference)?;
         Ok(Self {
-            console_help: help(&console)?,
-            reference_help: help(&reference)?,
+            console_help: ask(&console, HELP)?,
+            reference_help: ask(&reference, HELP)?,
             console,
             reference,
         })
@@ -67,29 +80,23 @@ impl Judge {
     }
 
     /// Runs a script; gives what is wrong, and else counts the answers.
-    pub fn judge(
-        &self,
-        script: &[&Line],
-        is_watched: bool,
-        tally: &mut Tally,
-    ) -> Result<Option<Finding>, String> {
+    pub fn judge(&self, script: &[&Line], is_exchange: bool, tally: &mut Tally) -> Result<Option<Finding>, String> {
         let input: Vec<u8> = script.iter().flat_map(|line| line.iter().copied()).collect();
         let [console, reference] = run_both(&self.console, &self.reference, &input)?;
         if let Some(difference) = self.difference(script, &console, &reference) {
             return Ok(Some(difference));
         }
-        let mut watch = Watch::default();
+        let mut stillness = Stillness::default();
+        let mut watch = is_exchange.then(Watch::default);
         for (line, answer) in answers(script, &console.output) {
             tally.count(script[line], answer);
-            if !is_watched {
-                continue;
+            let mut seen = stillness.see(script[line], answer);
+            if let Some(watch) = &mut watch {
+                seen = seen.and_then(|()| watch.see(script[line], answer));
             }
-            if let Err(clause) = watch.see(script[line], answer) {
-                return Ok(Some(Finding::Clause {
-                    line,
-                    console: answer.to_vec(),
-                    clause,
-                }));
+            if let Err(clause) = seen {
+                let console = answer.to_vec();
+                return Ok(Some(Finding::Clause { line, console, clause }));
             }
         }
         Ok(None)
@@ -134,10 +141,7 @@ impl Judge {
 }
 
 /// Each line that has an answer, by its place, with the answer.
-fn answers<'a>(
-    script: &'a [&Line],
-    output: &'a [u8],
-) -> impl Iterator<Item = (usize, &'a [u8])> + 'a {
+fn answers<'a>(script: &'a [&Line], output: &'a [u8]) -> impl Iterator<Item = (usize, &'a [u8])> + 'a {
     (0..script.len())
         .filter(|&line| !is_silent(script[line]))
         .zip(output.split_inclusive(is_feed))
@@ -161,13 +165,4 @@ fn find(program: &Path) -> Result<PathBuf, String> {
     program
         .canonicalize()
         .map_err(|error| format!("{}: {error}", program.display()))
-}
-
-/// What a program answers to `help`.
-fn help(program: &Path) -> Result<String, String> {
-    let run = run(program, b"help\n")?;
-    match (String::from_utf8(run.output), run.end) {
-        (Ok(text), End::Well) => Ok(text),
-        (_, end) => Err(format!("{}: help ended {end:?}", program.display())),
-    }
 }

@@ -17,11 +17,7 @@ pub fn minimise<T: Copy>(entries: Vec<T>, mut fails: impl FnMut(&[T]) -> bool) -
 }
 
 /// Tries to drop each part of `size` entries; tells whether one was dropped.
-fn drop_parts<T: Copy>(
-    kept: &mut Vec<T>,
-    size: usize,
-    fails: &mut impl FnMut(&[T]) -> bool,
-) -> bool {
+fn drop_parts<T: Copy>(kept: &mut Vec<T>, size: usize, fails: &mut impl FnMut(&[T]) -> bool) -> bool {
     let mut is_shorter = false;
     let mut end = kept.len();
     while end > 0 {

@@ -46,11 +46,7 @@ impl Options {
         let mut options = Self::default();
         while let Some(word) = words.next() {
             let value = words.next().ok_or_else(|| format!("{word} needs a value"))?;
-            let whole = |value: &str| {
-                value
-                    .parse()
-                    .map_err(|_| format!("{word} needs a whole number"))
-            };
+            let whole = |value: &str| value.parse().map_err(|_| format!("{word} needs a whole number"));
             match word.as_str() {
                 "--seed" => options.seed = whole(&value)?,
                 "--calls" => options.calls = whole(&value)? as usize,

@@ -1,14 +1,16 @@
 //! Runs a program on a script: the script goes to its standard input, all of its standard output is read.
 
-use std::io::{Read, Write};
+use std::io::{self, BufRead, BufReader, Read, Write};
 use std::path::Path;
-use std::process::{Child, Command, Stdio};
+use std::process::{Child, ChildStdin, ChildStdout, Command, Stdio};
 use std::sync::mpsc::{self, Receiver};
 use std::thread;
 use std::time::Duration;
 
 /// How long a run may take before the program is stopped.
 const RUN_LIMIT: Duration = Duration::from_secs(120);
+/// How long one answer may take while the input is still open.
+const ANSWER_LIMIT: Duration = Duration::from_secs(10);
 
 /// What a run gave.
 pub struct Run {
@@ -37,43 +39,64 @@ pub fn run_both(console: &Path, reference: &Path, script: &[u8]) -> Result<[Run;
     })
 }
 
+/// Gives a program one line and waits for one line, which must come while the input is still open.
+pub fn ask(program: &Path, line: &str) -> Result<String, String> {
+    let failed = |error: io::Error| format!("{}: {error}", program.display());
+    let (mut child, mut input, output) = start(program).map_err(failed)?;
+    input.write_all(line.as_bytes()).map_err(failed)?;
+    let answer = read_apart(output, |output| {
+        let mut answer = Vec::new();
+        BufReader::new(output).read_until(b'\n', &mut answer).map(|_| answer)
+    })
+    .recv_timeout(ANSWER_LIMIT);
+    drop(input);
+    child.kill().and_then(|()| child.wait()).map_err(failed)?;
+    let answer = answer.map_err(|_| format!("{}: no answer to {line}", program.display()))?;
+    String::from_utf8(answer.map_err(failed)?).map_err(|error| format!("{}: {error}", program.display()))
+}
+
 /// Runs one program on a script.
-pub fn run(program: &Path, script: &[u8]) -> Result<Run, String> {
-    let failed = |error: std::io::Error| format!("{}: {error}", program.display());
-    let mut child = Command::new(program)
-        .stdin(Stdio::piped())
-        .stdout(Stdio::piped())
-        .spawn()
-        .map_err(failed)?;
-    let input = child.stdin.take();
-    let output = child.stdout.take();
+fn run(program: &Path, script: &[u8]) -> Result<Run, String> {
+    let failed = |error: io::Error| format!("{}: {error}", program.display());
+    let (mut child, mut input, output) = start(program).map_err(failed)?;
+    let output = read_apart(output, |mut output| {
+        let mut bytes = Vec::new();
+        output.read_to_end(&mut bytes).map(|_| bytes)
+    });
     thread::scope(|scope| {
         // A program that ends before its input does is seen by what it wrote, so a failed write needs no word.
-        scope.spawn(move || input.map(|mut input| input.write_all(script)));
-        let (sender, receiver) = mpsc::channel();
-        scope.spawn(move || {
-            let mut bytes = Vec::new();
-            let read = output.map(|mut output| output.read_to_end(&mut bytes));
-            sender.send((bytes, read.transpose().map(|_| ())))
-        });
-        collect(&mut child, &receiver).map_err(failed)
+        scope.spawn(move || input.write_all(script));
+        collect(&mut child, &output).map_err(failed)
     })
 }
 
+/// Starts a program with both ends of its line.
+fn start(program: &Path) -> io::Result<(Child, ChildStdin, ChildStdout)> {
+    let mut child = Command::new(program)
+        .stdin(Stdio::piped())
+        .stdout(Stdio::piped())
+        .spawn()?;
+    match (child.stdin.take(), child.stdout.take()) {
+        (Some(input), Some(output)) => Ok((child, input, output)),
+        _ => Err(io::Error::other("no line to the program")),
+    }
+}
+
+/// Reads in a thread of its own, so that there can be a limit to it.
+fn read_apart(output: ChildStdout, read: fn(ChildStdout) -> io::Result<Vec<u8>>) -> Receiver<io::Result<Vec<u8>>> {
+    let (sender, receiver) = mpsc::channel();
+    thread::spawn(move || sender.send(read(output)));
+    receiver
+}
+
 /// Waits for a program's output and end; stops it after the limit.
-fn collect(
-    child: &mut Child,
-    receiver: &Receiver<(Vec<u8>, std::io::Result<()>)>,
-) -> std::io::Result<Run> {
-    let received = receiver.recv_timeout(RUN_LIMIT);
+fn collect(child: &mut Child, output: &Receiver<io::Result<Vec<u8>>>) -> io::Result<Run> {
+    let received = output.recv_timeout(RUN_LIMIT);
     let is_late = received.is_err();
     if is_late {
         child.kill()?;
     }
-    let (output, read) = received
-        .or_else(|_| receiver.recv())
-        .unwrap_or((Vec::new(), Ok(())));
-    read?;
+    let output = received.or_else(|_| output.recv()).map_err(io::Error::other)??;
     let status = child.wait()?;
     let end = if is_late {
         End::Badly(format!("stopped after {} seconds", RUN_LIMIT.as_secs()))

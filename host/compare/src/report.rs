@@ -26,11 +26,7 @@ pub fn tell(finding: &Finding, script: &[&Line]) -> String {
             text += &format!("console:   {}\n", cut(console, from));
             text += &format!("reference: {}\n", cut(reference, from));
         }
-        Finding::Clause {
-            line,
-            console,
-            clause,
-        } => {
+        Finding::Clause { line, console, clause } => {
             text += &format!("clause:    {clause}\n");
             text += &format!("line:      {}\n", at(*line));
             text += &format!("console:   {}\n", cut(console, 0));

@@ -49,9 +49,9 @@ impl Tally {
             let name = entry.call();
             let possible = entry.numbers();
             if entries.contains(&entry) {
-                let missing = possible.iter().filter(|number| {
-                    !counts.numbers.contains_key(number) && can_come_up(entry, **number, listed)
-                });
+                let missing = possible
+                    .iter()
+                    .filter(|number| !counts.numbers.contains_key(number) && can_come_up(entry, **number, listed));
                 faults.extend(missing.map(|number| format!("{name} never gave {number}")));
             }
             let strange = counts.numbers.keys().filter(|number| !possible.contains(number));
@@ -91,11 +91,7 @@ fn mark_faults(entry: Entry, counts: &Counts, is_asked: bool) -> Vec<String> {
 }
 
 /// The mark in an answer of this number: Love's error code, LucidControl's status, what the master says.
-fn mark<'a>(
-    entry: Entry,
-    number: i64,
-    mut words: impl Iterator<Item = &'a [u8]>,
-) -> Option<String> {
+fn mark<'a>(entry: Entry, number: i64, mut words: impl Iterator<Item = &'a [u8]>) -> Option<String> {
     match entry {
         Entry::Love => {
             let bytes = bytes_of(words)?;

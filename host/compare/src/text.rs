@@ -51,10 +51,7 @@ mod tests {
     fn bytes_become_words_and_come_back() {
         let text = hex_words(&[0x7E, 0x0A, 0xFF]);
         assert_eq!(text, " 7E 0A FF");
-        assert_eq!(
-            bytes_of(words(text.as_bytes())),
-            Some(vec![0x7E, 0x0A, 0xFF])
-        );
+        assert_eq!(bytes_of(words(text.as_bytes())), Some(vec![0x7E, 0x0A, 0xFF]));
         assert_eq!(bytes_of(words(b"7E 0x")), None);
     }
 

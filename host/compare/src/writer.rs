@@ -1,5 +1,7 @@
 //! Writes a script: calls, and after each call the peeks that show what it changed.
 
+use std::ops::Range;
+
 use crate::calls::{Listed, CALLS};
 use crate::card::{self, Place, MEMORY, SMALL_TABLES};
 use crate::model::Model;
@@ -9,11 +11,15 @@ use crate::text::{hex_words, words};
 /// A line of a script, with its line feed unless it is a last line without one.
 pub type Line = Vec<u8>;
 
-/// The room for an answer that every dialect takes, and the room that an image needs.
+/// The room for an answer that every dialect takes.
 pub const ANSWER_ROOM: usize = 38;
-pub const IMAGE_ROOM: usize = 293;
 /// The largest room of a call.
 pub const ROOM_MOST: usize = 1024;
+/// Places of the table of the pending change.
+const PENDING_KIND: usize = 0;
+const PENDING_ADDRESS: usize = 1;
+const PENDING_NUM: usize = 2;
+const PENDING_DATA: Range<usize> = 3..35;
 /// Rooms around each limit.
 pub const TELLING_ROOMS: [usize; 10] = [0, 1, 37, 38, 39, 292, 293, 294, 1023, ROOM_MOST];
 
@@ -144,14 +150,29 @@ impl<'a> Writer<'a> {
 
     /// Stores an entry, then peeks.
     pub fn poke(&mut self, place: Place, value: i64) {
-        self.set(place.table, place.place, value);
+        if !self.set(place.table, place.place, value) {
+            return;
+        }
         self.calls += 1;
         self.peek(matches!(place.table, "memory" | "probe"));
     }
 
-    /// Stores an entry without a look at the tables, to set a scene.
-    pub fn set(&mut self, table: &str, place: usize, value: i64) {
-        self.quiet(format!("poke {table} {place} {value}").as_bytes());
+    /// Stores an entry without a look at the tables, to set a scene; tells whether pokes are listed.
+    pub fn set(&mut self, table: &str, place: usize, value: i64) -> bool {
+        self.quiet(format!("poke {table} {place} {value}").as_bytes()).is_some()
+    }
+
+    /// Stores a pending change of any kind; each of its entries is set, since no paper says what the entries hold
+    /// that are not shown while nothing is pending.
+    pub fn set_pending(&mut self, kind: u8, address: u16, num: u8) {
+        self.set("pending", PENDING_KIND, 0);
+        self.set("pending", PENDING_ADDRESS, i64::from(address));
+        self.set("pending", PENDING_NUM, i64::from(num));
+        for place in PENDING_DATA {
+            let value = i64::from(self.rng.byte());
+            self.set("pending", place, value);
+        }
+        self.set("pending", PENDING_KIND, i64::from(kind));
     }
 
     /// Gives the card other addresses.

@@ -16,8 +16,8 @@ pub const COMMAND_FIELD: u8 = 0xE0;
 pub const NUM_MOST: u8 = 32;
 /// Addresses on both sides of each limit.
 pub const TELLING_ADDRESSES: [u16; 17] = [
-    0x0000, 0x0FE0, 0x0FFF, 0x1000, 0x1001, 0x1003, 0x1004, 0x100F, 0x1010, 0x1011, 0x1FDF, 0x1FE0,
-    0x1FF0, 0x1FFF, 0x2000, 0x2001, 0xFFFF,
+    0x0000, 0x0FE0, 0x0FFF, 0x1000, 0x1001, 0x1003, 0x1004, 0x100F, 0x1010, 0x1011, 0x1FDF, 0x1FE0, 0x1FF0, 0x1FFF,
+    0x2000, 0x2001, 0xFFFF,
 ];
 /// NUMs on both sides of each limit.
 pub const TELLING_NUMS: [u8; 13] = [0, 1, 2, 3, 4, 15, 16, 17, 30, 31, 32, 33, 255];
@@ -27,6 +27,8 @@ pub struct Datalink;
 
 impl Dialect for Datalink {
     const CALL: &'static str = "datalink";
+    const SHORTEST: usize = 2;
+    const LONGEST: usize = 38;
 
     fn valid(rng: &mut Rng, to: &Addresses) -> Vec<u8> {
         match rng.below(4) {
@@ -119,11 +121,7 @@ pub fn valid_change(rng: &mut Rng, ia: u8) -> Vec<u8> {
 
 /// An address from which `named` bytes are writable; for none, any address in the memory or at its end.
 pub fn writable_address(rng: &mut Rng, named: u8) -> u16 {
-    let first = if named == 0 {
-        MEMORY_START
-    } else {
-        WRITABLE_START
-    };
+    let first = if named == 0 { MEMORY_START } else { WRITABLE_START };
     let last = MEMORY_END - u16::from(named);
     let inside = rng.between(i64::from(first), i64::from(last)) as u16;
     rng.pick(&[first, last, inside])

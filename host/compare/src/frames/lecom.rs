@@ -70,6 +70,8 @@ pub struct Lecom;
 
 impl Dialect for Lecom {
     const CALL: &'static str = "lecom";
+    const SHORTEST: usize = 6;
+    const LONGEST: usize = 25;
 
     fn valid(rng: &mut Rng, to: &Addresses) -> Vec<u8> {
         let figures = reaching(rng, to.lecom);

@@ -17,9 +17,9 @@ const TAIL: usize = 3;
 pub const PARAMETERS: [&str; 4] = ["00", "02", "04", "05"];
 /// Figures and sign of a write, right and wrong.
 const TELLING_VALUES: [&str; 24] = [
-    "000000", "0000FF", "0000ff", "0000Ff", "000001", "0000F0", "00000F", "0000FE", "087000",
-    "0870FF", "087100", "040000", "0400FF", "0401FF", "040100", "999900", "9999FF", "00A000",
-    "A00000", "000a00", "0015FF", "001500", "00150G", "FFFFFF",
+    "000000", "0000FF", "0000ff", "0000Ff", "000001", "0000F0", "00000F", "0000FE", "087000", "0870FF", "087100",
+    "040000", "0400FF", "0401FF", "040100", "999900", "9999FF", "00A000", "A00000", "000a00", "0015FF", "001500",
+    "00150G", "FFFFFF",
 ];
 /// Data fields of odd length or with an unknown command.
 const TELLING_FIELDS: [&str; 30] = [
@@ -60,6 +60,8 @@ pub struct Love;
 
 impl Dialect for Love {
     const CALL: &'static str = "love";
+    const SHORTEST: usize = 7;
+    const LONGEST: usize = 32;
 
     fn valid(rng: &mut Rng, to: &Addresses) -> Vec<u8> {
         let parameter = rng.pick(&PARAMETERS);

@@ -12,14 +12,7 @@ pub const SET_IO_GROUP: u8 = 0x42;
 pub const SET_PARAM: u8 = 0xA0;
 pub const GET_PARAM: u8 = 0xA2;
 /// Every command that is built.
-pub const COMMANDS: [u8; 6] = [
-    GET_IO,
-    GET_IO_GROUP,
-    SET_IO,
-    SET_IO_GROUP,
-    SET_PARAM,
-    GET_PARAM,
-];
+pub const COMMANDS: [u8; 6] = [GET_IO, GET_IO_GROUP, SET_IO, SET_IO_GROUP, SET_PARAM, GET_PARAM];
 /// Value types: demand, probe in tenths, probe in hundredths.
 pub const DEMAND: u8 = 0x10;
 pub const TENTHS: u8 = 0x40;
@@ -39,21 +32,20 @@ const MASK_MOST: usize = 0x0F;
 const TELLING_P1: [u8; 10] = [0, 1, 2, 3, 4, 0x0E, 0x0F, 0x10, 0x80, 0xFF];
 /// Types and options, known and unknown.
 const TELLING_P2: [u8; 17] = [
-    0x00, 0x01, 0x02, 0x0A, 0x10, 0x11, 0x1C, 0x1D, 0x3F, 0x40, 0x41, 0x42, 0x50, 0x7F, 0x80, 0x81,
-    0xFF,
+    0x00, 0x01, 0x02, 0x0A, 0x10, 0x11, 0x1C, 0x1D, 0x3F, 0x40, 0x41, 0x42, 0x50, 0x7F, 0x80, 0x81, 0xFF,
 ];
 /// Commands near the known ones, and those of the source that are not built.
 const OTHER_COMMANDS: [u8; 10] = [0x00, 0x41, 0x43, 0x47, 0x49, 0x52, 0xA1, 0xA3, 0xC0, 0xFF];
 /// Parameter addresses near the known ones.
-const OTHER_PARAMETERS: [u16; 8] = [
-    0x0000, 0x110F, 0x1111, 0x111F, 0x1121, 0x1011, 0x2011, 0xFFFF,
-];
+const OTHER_PARAMETERS: [u16; 8] = [0x0000, 0x110F, 0x1111, 0x111F, 0x1121, 0x1011, 0x2011, 0xFFFF];
 
 /// The LucidControl dialect.
 pub struct Lucid;
 
 impl Dialect for Lucid {
     const CALL: &'static str = "lucid";
+    const SHORTEST: usize = 4;
+    const LONGEST: usize = 259;
 
     fn valid(rng: &mut Rng, _: &Addresses) -> Vec<u8> {
         let channel = rng.below(CHANNELS) as u8;

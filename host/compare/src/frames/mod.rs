@@ -12,6 +12,9 @@ use crate::writer::Addresses;
 pub trait Dialect {
     /// The call that takes the dialect's frames.
     const CALL: &'static str;
+    /// Bytes of its shortest and longest frame.
+    const SHORTEST: usize;
+    const LONGEST: usize;
 
     /// A frame that the order of document 01 refuses at most for the card's state (nothing pending, probe at fault).
     fn valid(rng: &mut Rng, to: &Addresses) -> Vec<u8>;
@@ -31,10 +34,7 @@ pub fn sum(bytes: &[u8]) -> u8 {
 /// A byte as two upper-case hex figures.
 pub fn hex_figures(byte: u8) -> [u8; 2] {
     const FIGURES: &[u8; 16] = b"0123456789ABCDEF";
-    [
-        FIGURES[usize::from(byte >> 4)],
-        FIGURES[usize::from(byte & 0x0F)],
-    ]
+    [FIGURES[usize::from(byte >> 4)], FIGURES[usize::from(byte & 0x0F)]]
 }
 
 #[cfg(test)]

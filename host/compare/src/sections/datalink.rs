@@ -3,8 +3,8 @@
 use super::dialect;
 use crate::card::{MEMORY_END, MEMORY_START};
 use crate::frames::datalink::{
-    acknowledge, interrogate, message, valid_change, valid_interrogate, Datalink, ACKNOWLEDGE,
-    CHANGE, CHANGE_BITS, INTERROGATE, TELLING_ADDRESSES, TELLING_NUMS,
+    acknowledge, interrogate, message, valid_change, valid_interrogate, Datalink, ACKNOWLEDGE, CHANGE, CHANGE_BITS,
+    INTERROGATE, TELLING_ADDRESSES, TELLING_NUMS,
 };
 use crate::frames::Dialect;
 use crate::writer::{Writer, ANSWER_ROOM};

@@ -79,16 +79,18 @@ fn assembled<D: Dialect>(out: &mut Writer) {
 
 /// Random bytes of every length, alone and behind the beginning of a valid frame.
 fn noise<D: Dialect>(out: &mut Writer, turn: usize) {
-    let length = turn % (NOISE_MOST + 1);
-    let bytes = out.rng.bytes(length);
-    out.frame(D::CALL, ANSWER_ROOM, &bytes);
-    let mut begun = D::valid(&mut out.rng, &out.addresses);
-    let kept = out.rng.below(begun.len() + 1);
-    begun.truncate(kept);
-    begun.extend(out.rng.bytes(length));
-    out.frame(D::CALL, ANSWER_ROOM, &begun);
-    D::seal(&mut begun);
-    out.frame(D::CALL, ANSWER_ROOM, &begun);
+    let limits = [D::SHORTEST - 1, D::SHORTEST, D::LONGEST, D::LONGEST + 1];
+    for length in [turn % (NOISE_MOST + 1), limits[turn % limits.len()]] {
+        let mut bytes = out.rng.bytes(length);
+        out.frame(D::CALL, ANSWER_ROOM, &bytes);
+        let mut begun = D::valid(&mut out.rng, &out.addresses);
+        let kept = out.rng.below(begun.len() + 1);
+        begun.truncate(kept.min(length));
+        bytes[..begun.len()].copy_from_slice(&begun);
+        out.frame(D::CALL, ANSWER_ROOM, &bytes);
+        D::seal(&mut bytes);
+        out.frame(D::CALL, ANSWER_ROOM, &bytes);
+    }
     if out.rng.chance(2) {
         let bytes = out.rng.bytes(LONG_NOISE);
         out.frame(D::CALL, ANSWER_ROOM, &bytes);

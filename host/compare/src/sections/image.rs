@@ -5,7 +5,7 @@ use crate::card::{ranged_places, Place};
 use crate::frames::{datalink::Datalink, lecom::Lecom, love::Love, lucid::Lucid};
 use crate::image::{fields, Field, Image, IMAGE, PADDING_WIDTH};
 use crate::rng::Rng;
-use crate::writer::{Writer, IMAGE_ROOM, TELLING_ROOMS};
+use crate::writer::{Writer, TELLING_ROOMS};
 
 /// Scenes of this section.
 const SCENES: usize = 7;
@@ -30,7 +30,7 @@ pub fn scene(out: &mut Writer) {
 
 /// Writes the image with enough room.
 fn save(out: &mut Writer) {
-    out.call(&format!("save {IMAGE_ROOM}"));
+    out.call(&format!("save {IMAGE}"));
 }
 
 /// An image for the card at its present addresses.
@@ -99,11 +99,13 @@ fn telling_bits(rng: &mut Rng, field: Field) -> Vec<u64> {
     bits
 }
 
-/// Every padding, on images whose entries are fit, spoiled or cut.
+/// Every padding and every single bit of it, on images whose entries are fit, spoiled or cut.
 fn padding(out: &mut Writer, turn: usize) {
     let mut image = same_addresses(out);
-    image.set_padding((turn % (1 << PADDING_WIDTH)) as u64);
-    out.load(&image.bytes());
+    for bits in [turn % (1 << PADDING_WIDTH), 1 << (turn % PADDING_WIDTH)] {
+        image.set_padding(bits as u64);
+        out.load(&image.bytes());
+    }
     let fields = fields();
     let number = out.rng.below(fields.len());
     let most = (1u64 << fields[number].width) - 1;

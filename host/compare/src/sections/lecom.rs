@@ -2,14 +2,16 @@
 
 use super::dialect;
 use crate::card::{CHANNELS, REGISTERS};
-use crate::frames::lecom::{
-    code, extended, figures, read, standard, value, write, Lecom, ACTIVATE, STORE,
-};
+use crate::frames::lecom::{code, extended, figures, read, standard, value, write, Lecom, ACTIVATE, STORE};
 use crate::frames::Dialect;
 use crate::writer::{Writer, ANSWER_ROOM};
 
 /// Scenes of this section's own.
 const OWN_SCENES: usize = 5;
+
+/// Places of the figures that are zero in an extended code that reaches a register: two of the code, two of the
+/// subcode.
+const ZERO_FIGURES: [usize; 4] = [1, 2, 5, 6];
 
 /// Writes the next scene.
 pub fn scene(out: &mut Writer) {
@@ -51,21 +53,20 @@ fn sequence(out: &mut Writer, turn: usize) {
     send(out, &read(unit, &register));
 }
 
-/// Every standard code and its extended forms, read and written.
+/// Every standard code and its extended form, read and written, and the latter with one figure changed.
 fn codes(out: &mut Writer, turn: usize) {
     let unit = figures(out.addresses.lecom);
     let number = (turn % 256) as u8;
-    let other = out.rng.byte() | 1;
-    let forms = [
-        standard(number),
-        extended(u16::from(number), 0),
-        extended(u16::from(number), other),
-        extended(u16::from(number) | u16::from(other) << 8, 0),
-    ];
-    for form in &forms {
+    let long = extended(u16::from(number), 0);
+    for form in [&standard(number), &long] {
         send(out, &read(unit, form));
         let data = value(&mut out.rng);
         send(out, &write(unit, form, &data));
+    }
+    for place in ZERO_FIGURES {
+        let mut other = long.clone();
+        other[place] = out.rng.pick(b"123456789ABCDEF");
+        send(out, &read(unit, &other));
     }
 }
 
@@ -93,6 +94,7 @@ fn probes(out: &mut Writer, turn: usize) {
     out.call(&format!("probe {channel} {sent}"));
     send(out, &read(unit, &register));
     send(out, &write(unit, &register, b"1"));
+    send(out, &write(unit, &register, b"A"));
     out.set_probes();
     for channel in 0..CHANNELS as u8 {
         let register = code(&mut out.rng, 0x60 + channel);
@@ -108,7 +110,17 @@ fn commands(out: &mut Writer) {
     send(out, &write(unit, &standard(register), &data));
     for command in [ACTIVATE, STORE] {
         let data: &[u8] = out.rng.pick(&[
-            b"0", b"1", b"2", b"-1", b"-0", b"001", b"10", b"A", b"-", b"1 ", b"000000000001",
+            b"0",
+            b"1",
+            b"2",
+            b"-1",
+            b"-0",
+            b"001",
+            b"10",
+            b"A",
+            b"-",
+            b"1 ",
+            b"000000000001",
         ]);
         let register = code(&mut out.rng, command);
         send(out, &write(unit, &register, data));

@@ -10,6 +10,8 @@ use crate::writer::{Writer, ANSWER_ROOM};
 const OWN_SCENES: usize = 5;
 /// Data lengths that still fit the longest frame, and some beyond.
 const LENGTHS: usize = 30;
+/// Data lengths at the limits: no data, a command, a write, the longest frame; one less and one more.
+const TELLING_LENGTHS: [usize; 10] = [0, 1, 2, 3, 4, 9, 10, 11, 25, 26];
 
 /// Writes the next scene.
 pub fn scene(out: &mut Writer) {
@@ -73,14 +75,17 @@ fn process_value(out: &mut Writer, turn: usize) {
 
 /// Data of every length, behind known commands and alone.
 fn lengths(out: &mut Writer, turn: usize) {
-    let length = turn % LENGTHS;
-    for command in ["", "00", "0100", "0200", "0101", "FF"] {
-        let mut data = command.to_owned();
-        while data.len() < length {
-            data.push(char::from(out.rng.pick(b"0000123456789ABCDEFabcdef")));
+    let telling = TELLING_LENGTHS[turn % TELLING_LENGTHS.len()];
+    for length in [turn % LENGTHS, telling] {
+        let commands = ["", "00", "0100", "0200", "0101", "FF"];
+        for command in [out.rng.pick(&commands), "00", "0200"] {
+            let mut data = command.to_owned();
+            while data.len() < length {
+                data.push(char::from(out.rng.pick(b"0000123456789ABCDEFabcdef")));
+            }
+            data.truncate(length);
+            send(out, &data);
         }
-        data.truncate(length);
-        send(out, &data);
     }
 }
 

@@ -3,8 +3,8 @@
 use super::dialect;
 use crate::card::{CHANNELS, PARAMETER_RANGES};
 use crate::frames::lucid::{
-    request, set_param, valid_set_param, Lucid, COMMANDS, DEFAULT, DEMAND, GET_IO, GET_IO_GROUP,
-    GET_PARAM, HUNDREDTHS, PARAMETERS, PERSISTENT, SET_IO, SET_IO_GROUP, SET_PARAM, TENTHS,
+    request, set_param, valid_set_param, Lucid, COMMANDS, DEFAULT, DEMAND, GET_IO, GET_IO_GROUP, GET_PARAM, HUNDREDTHS,
+    PARAMETERS, PERSISTENT, SET_IO, SET_IO_GROUP, SET_PARAM, TENTHS,
 };
 use crate::frames::Dialect;
 use crate::writer::{Writer, ANSWER_ROOM};

@@ -22,6 +22,8 @@ pub const SCRIPT_CALLS: usize = 2000;
 pub struct Section {
     /// Its name for `--section`.
     pub name: &'static str,
+    /// Its part of all calls, beside the other sections'.
+    pub weight: usize,
     /// Calls without which it has nothing to say.
     needs: &'static [&'static str],
     /// Entries whose every number comes up in it.
@@ -47,6 +49,7 @@ impl Section {
 pub const SECTIONS: [Section; 8] = [
     Section {
         name: "tables",
+        weight: 3,
         needs: &[],
         entries: &[Entry::Probe, Entry::Restart, Entry::Governor],
         is_followed: false,
@@ -55,6 +58,7 @@ pub const SECTIONS: [Section; 8] = [
     },
     Section {
         name: "unreadable",
+        weight: 2,
         needs: &[],
         entries: &[],
         is_followed: false,
@@ -63,6 +67,7 @@ pub const SECTIONS: [Section; 8] = [
     },
     Section {
         name: "datalink",
+        weight: 2,
         needs: &["datalink"],
         entries: &[Entry::Datalink],
         is_followed: false,
@@ -71,6 +76,7 @@ pub const SECTIONS: [Section; 8] = [
     },
     Section {
         name: "lecom",
+        weight: 2,
         needs: &["lecom"],
         entries: &[Entry::Lecom],
         is_followed: false,
@@ -79,6 +85,7 @@ pub const SECTIONS: [Section; 8] = [
     },
     Section {
         name: "love",
+        weight: 2,
         needs: &["love"],
         entries: &[Entry::Love],
         is_followed: false,
@@ -87,6 +94,7 @@ pub const SECTIONS: [Section; 8] = [
     },
     Section {
         name: "lucid",
+        weight: 2,
         needs: &["lucid"],
         entries: &[Entry::Lucid],
         is_followed: false,
@@ -95,6 +103,7 @@ pub const SECTIONS: [Section; 8] = [
     },
     Section {
         name: "image",
+        weight: 2,
         needs: &[],
         entries: &[Entry::Save, Entry::Load],
         is_followed: false,
@@ -103,6 +112,7 @@ pub const SECTIONS: [Section; 8] = [
     },
     Section {
         name: "exchanges",
+        weight: 4,
         needs: &["datalink", "request", "step", "poke", "peek"],
         entries: &[Entry::Step],
         is_followed: true,
@@ -157,5 +167,85 @@ impl<'a> Scribe<'a> {
         self.scripts += 1;
         self.left = self.left.saturating_sub(writer.calls());
         Some(writer.finish())
+    }
+}
+
+#[cfg(test)]
+mod tests {
+    use super::*;
+    use crate::calls::CALLS;
+    use crate::model::Model;
+    use crate::text::words;
+
+    /// Calls of a tried script: enough for every scene of a section.
+    const TRIED_CALLS: usize = 300;
+
+    fn all_calls() -> Listed {
+        Listed::read(&format!("calls: {}\n", CALLS.join("; "))).unwrap()
+    }
+
+    fn script(section: &Section, listed: &Listed, seed: u64) -> Vec<Line> {
+        Scribe::new(section, listed, seed, TRIED_CALLS).script().unwrap()
+    }
+
+    #[test]
+    fn a_seed_decides_the_scripts() {
+        let listed = all_calls();
+        for section in &SECTIONS {
+            assert_eq!(
+                script(section, &listed, 5),
+                script(section, &listed, 5),
+                "{}",
+                section.name
+            );
+            assert_ne!(
+                script(section, &listed, 5),
+                script(section, &listed, 6),
+                "{}",
+                section.name
+            );
+        }
+    }
+
+    #[test]
+    fn scripts_are_readable_but_for_one_section() {
+        let listed = all_calls();
+        for section in &SECTIONS {
+            let mut model = Model::new();
+            let lines = script(section, &listed, 1);
+            let unreadable = lines
+                .iter()
+                .filter(|line| model.line(line.trim_ascii_end()).starts_with("error"))
+                .count();
+            assert_eq!(unreadable > 0, section.name == "unreadable", "{}", section.name);
+        }
+    }
+
+    #[test]
+    fn calls_that_are_not_listed_are_left_out() {
+        let listed = Listed::read("calls: restart; love ROOM BYTES; help\n").unwrap();
+        let possible = SECTIONS.iter().filter(|section| section.is_possible(&listed));
+        let names: Vec<&str> = possible.clone().map(|section| section.name).collect();
+        assert_eq!(names, ["tables", "unreadable", "love"]);
+        for section in possible {
+            for line in script(section, &listed, 1) {
+                let name = words(&line).next().unwrap_or_default();
+                let call = CALLS.iter().find(|call| call.as_bytes() == name);
+                assert!(call.is_none_or(|call| listed.has(call)), "{call:?}");
+            }
+        }
+    }
+
+    #[test]
+    fn followed_exchanges_end_in_both_ways() {
+        let listed = all_calls();
+        let section = SECTIONS.iter().find(|section| section.is_followed).unwrap();
+        let mut model = Model::new();
+        let answers: Vec<String> = script(section, &listed, 1)
+            .iter()
+            .map(|line| model.line(line.trim_ascii_end()))
+            .collect();
+        assert!(answers.iter().any(|answer| answer == "1 done"));
+        assert!(answers.iter().any(|answer| answer == "1 unknown"));
     }
 }

@@ -1,22 +1,19 @@
 //! Section `tables`: every entry's answer to fit and unfit tables, channels, rooms, codes and restarts.
 
 use super::dialect::send_valid;
-use crate::card::{self, ranged_places, Place, MEMORY, MEMORY_PLACES, REGISTERS};
-use crate::frames::datalink::{acknowledge, Datalink, TELLING_ADDRESSES, TELLING_NUMS};
+use crate::card::{self, ranged_places, register_places, short_places, Place, MEMORY, MEMORY_PLACES, REGISTERS};
+use crate::frames::datalink::{acknowledge, writable_address, Datalink, NUM_MOST, TELLING_ADDRESSES, TELLING_NUMS};
 use crate::frames::{lecom::Lecom, love::Love, lucid::Lucid};
 use crate::frames::{love, Dialect};
-use crate::image::Image;
-use crate::writer::{Writer, ANSWER_ROOM, IMAGE_ROOM, TELLING_ROOMS};
+use crate::image::{Image, IMAGE};
+use crate::writer::{Writer, ANSWER_ROOM, TELLING_ROOMS};
 
 /// Scenes of this section.
-const SCENES: usize = 7;
+const SCENES: usize = 8;
+/// Probe codes of one scene.
+const CODES: usize = 8;
 /// Pending kinds: both changes, none, and two that are no kind.
 const PENDING_KINDS: [u8; 5] = [1, 2, 0, 3, 255];
-/// Places of the pending change's address, NUM and data.
-const PENDING_ADDRESS: usize = 1;
-const PENDING_NUM: usize = 2;
-const PENDING_DATA: usize = 3;
-const PENDING_DATA_MOST: usize = 32;
 
 /// Writes the next scene.
 pub fn scene(out: &mut Writer) {
@@ -28,23 +25,27 @@ pub fn scene(out: &mut Writer) {
         3 => rooms(out, turn),
         4 => codes(out, turn),
         5 => restart(out),
-        _ => memory(out),
+        6 => memory(out),
+        _ => limits(out, turn),
     }
 }
 
+/// A call of each entry of the card.
+const ENTRY_CALLS: [fn(&mut Writer); 9] = [
+    |out| out.set_code(),
+    |out| drop(out.call("restart")),
+    reading,
+    send_valid::<Datalink>,
+    send_valid::<Lecom>,
+    send_valid::<Love>,
+    send_valid::<Lucid>,
+    |out| drop(out.call(&format!("save {IMAGE}"))),
+    load_same,
+];
+
 /// Calls every entry once, in random order.
 fn every_entry(out: &mut Writer) {
-    let mut calls: [fn(&mut Writer); 9] = [
-        |out| out.set_code(),
-        |out| drop(out.call("restart")),
-        |out| reading(out),
-        send_valid::<Datalink>,
-        send_valid::<Lecom>,
-        send_valid::<Love>,
-        send_valid::<Lucid>,
-        |out| drop(out.call(&format!("save {IMAGE_ROOM}"))),
-        |out| load_same(out),
-    ];
+    let mut calls = ENTRY_CALLS;
     out.rng.shuffle(&mut calls);
     for call in calls {
         call(out);
@@ -80,30 +81,42 @@ fn one_entry(out: &mut Writer, turn: usize) {
     reading(out);
 }
 
-/// A pending change of every kind, address and NUM; all calls; nothing pending again.
+/// A short table's entry and a register on both sides of each limit, with one call each.
+fn limits(out: &mut Writer, turn: usize) {
+    let short = short_places();
+    let registers = register_places();
+    for place in [short[turn % short.len()], registers[turn % registers.len()]] {
+        for value in place.limits() {
+            out.poke(place, value);
+            let call = out.rng.pick(&ENTRY_CALLS);
+            call(out);
+        }
+        let value = place.fit_value(&mut out.rng);
+        out.set(place.table, place.place, value);
+    }
+    out.set_addresses();
+}
+
+/// A pending change that is fit, or unfit by one or more of its kind, address and NUM; all calls; nothing pending
+/// again.
 fn pending(out: &mut Writer, turn: usize) {
     let kind = PENDING_KINDS[turn % PENDING_KINDS.len()];
-    let turn = turn / PENDING_KINDS.len();
-    let num = TELLING_NUMS[turn % TELLING_NUMS.len()];
-    let address = TELLING_ADDRESSES[turn / TELLING_NUMS.len() % TELLING_ADDRESSES.len()];
-    out.set("pending", PENDING_ADDRESS, i64::from(address));
-    out.set("pending", PENDING_NUM, i64::from(num));
-    for _ in 0..4 {
-        let place = PENDING_DATA + out.rng.below(PENDING_DATA_MOST);
-        let value = i64::from(out.rng.byte());
-        out.set("pending", place, value);
-    }
-    let place = Place {
-        table: "pending",
-        place: 0,
-    };
-    out.poke(place, i64::from(kind));
+    let fit_num = 2 * out.rng.below(usize::from(NUM_MOST) / 2 + 1) as u8;
+    let telling_num = out.rng.pick(&TELLING_NUMS);
+    let num = out.rng.pick(&[fit_num, fit_num, telling_num]);
+    let named = if kind == 2 { num / 2 } else { num };
+    let fit_address = writable_address(&mut out.rng, named);
+    let telling_address = out.rng.pick(&TELLING_ADDRESSES);
+    let address = out.rng.pick(&[fit_address, fit_address + 1, telling_address]);
+    out.set_pending(kind, address, num);
+    out.peek(false);
     if out.rng.chance(50) {
         let ia = out.addresses.ia;
         out.frame(Datalink::CALL, ANSWER_ROOM, &acknowledge(ia));
     }
     every_entry(out);
-    out.poke(place, 0);
+    out.set_pending(0, 0, 0);
+    out.peek(false);
     reading(out);
 }
 
@@ -141,18 +154,15 @@ fn rooms(out: &mut Writer, turn: usize) {
     }
 }
 
-/// The governor's reading of each code.
+/// The governor's reading of each code, set by the entry or by a poke.
 fn codes(out: &mut Writer, turn: usize) {
     let channel = turn % card::CHANNELS;
-    for code in [turn % 256, usize::from(card::probe_code(&mut out.rng))] {
+    for code in 0..CODES {
+        let code = (CODES * turn + code) % 256;
         if out.rng.chance(50) {
             out.call(&format!("probe {channel} {code}"));
         } else {
-            let place = Place {
-                table: "probe",
-                place: channel,
-            };
-            out.poke(place, code as i64);
+            out.set("probe", channel, code as i64);
         }
         out.call(&format!("governor {channel}"));
     }
@@ -189,10 +199,7 @@ fn memory(out: &mut Writer) {
     for place in [0, 3, 4, 15, 16, MEMORY_PLACES - 1, anywhere] {
         let byte = out.rng.byte();
         let value = out.rng.pick(&[0, 1, 127, 128, 254, 255, byte]);
-        let place = Place {
-            table: MEMORY,
-            place,
-        };
+        let place = Place { table: MEMORY, place };
         out.poke(place, i64::from(value));
     }
     reading(out);

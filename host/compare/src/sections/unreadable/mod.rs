@@ -1,136 +1,35 @@
 //! Section `unreadable`: lines that cannot be read, or only just.
 
+mod lists;
+
 use crate::card::{ranged_places, SMALL_TABLES};
 use crate::frames::{datalink::Datalink, lecom::Lecom, love::Love, lucid::Lucid, Dialect};
 use crate::text::{hex_words, LINE_MOST};
 use crate::writer::Writer;
+use lists::{LIMIT_LINES, ODD_BYTES, ODD_LINES, ODD_NUMBERS};
 
 /// Scenes of this section.
-const SCENES: usize = 6;
+const SCENES: usize = 7;
 /// Lines of one scene.
 const LINES: usize = 8;
+/// Tables that readable lines poke: all small ones but the pending change, of which entries may be unknown.
+const POKED_TABLES: [&str; 9] = [
+    "address",
+    "probe",
+    "buffer",
+    "operational",
+    "saved",
+    "love",
+    "demand",
+    "parameter",
+    "kept",
+];
 /// Places of a table that readable lines poke, from the first on.
 const POKED_PLACES: usize = 3;
 /// Lengths of long lines: one below the longest, the longest, one above, and far above.
 const LONG_LENGTHS: [usize; 4] = [LINE_MOST, LINE_MOST + 1, LINE_MOST - 1, 70_000];
 /// Kinds of long lines.
 const LONG_KINDS: usize = 7;
-
-/// Whole lines that are odd as they are.
-const ODD_LINES: [&[u8]; 62] = [
-    b"",
-    b" ",
-    b"     ",
-    b"#",
-    b"# probe 0 1",
-    b"#probe 0 1",
-    b" #",
-    b" # probe 0 1",
-    b"\t",
-    b" \t ",
-    b"\r",
-    b"\x00",
-    b"\xFF\xFE",
-    b"\xEF\xBB\xBFprobe 0 1",
-    b"\x0Bprobe 0 1",
-    b"probe\t0\t1",
-    b"probe 0\t1",
-    b"probe 0 1\t",
-    b"probe 0 1\r",
-    b"probe 0 1 \r",
-    b"\tprobe 0 1",
-    b"probe\xC2\xA00 1",
-    b"   probe   0   17   ",
-    b"probe 0 1 # comment",
-    b"PROBE 0 1",
-    b"Probe 0 1",
-    b"prob 0 1",
-    b"probes 0 1",
-    b"probe0 1",
-    b"probe,0,1",
-    b"restart now",
-    b"restart 0",
-    b"restart\x00",
-    b"RESTART",
-    b"help me",
-    b"help",
-    b"  help  ",
-    b"Help",
-    b"helps",
-    b"calls:",
-    b"error",
-    b"error unknown call",
-    b"ok",
-    b"0",
-    b"-",
-    b"/",
-    b"7E",
-    b"peek",
-    b"peek nothing",
-    b"peek Memory",
-    b"peek memory memory",
-    b"peek probe 0",
-    b"poke",
-    b"poke nothing 0 0",
-    b"request",
-    b"request nothing 3 4096 01",
-    b"request change",
-    b"request bits 3 4096",
-    b"request bits 3 4096 FF 00",
-    b"request bits 3 4096 FF/00",
-    b"request bits 3 4096 FF / 00 / 00",
-    b"request bits 3 4096 / /",
-];
-
-/// Words in the place of a number.
-const ODD_NUMBERS: [&str; 40] = [
-    "",
-    "-",
-    "-0",
-    "-1",
-    "+1",
-    "--1",
-    "1-",
-    "0",
-    "00",
-    "3",
-    "4",
-    "31",
-    "35",
-    "96",
-    "255",
-    "256",
-    "1024",
-    "1025",
-    "4095",
-    "4096",
-    "65535",
-    "65536",
-    "2147483647",
-    "2147483648",
-    "-2147483648",
-    "-2147483649",
-    "4294967295",
-    "4294967296",
-    "9999999999",
-    "0000000001",
-    "-0000000001",
-    "00000000001",
-    "-00000000001",
-    "00000000000",
-    "18446744073709551616",
-    "1.0",
-    "1e1",
-    "0x1",
-    "A",
-    "\u{FF11}",
-];
-
-/// Words in the place of a byte.
-const ODD_BYTES: [&str; 18] = [
-    "", "0", "7", "000", "7EE", "0G", "G0", "g0", "0x", "-1", "+1", "/", "//", "7e", "fF", "\u{E9}",
-    "\u{FF17}E", "0\t",
-];
 
 /// Writes the next scene.
 pub fn scene(out: &mut Writer) {
@@ -140,6 +39,7 @@ pub fn scene(out: &mut Writer) {
         1 | 2 => spoiled_lines(out),
         3 => numbers(out, turn),
         4 => noise_lines(out),
+        5 => limit_lines(out, turn),
         _ => long_lines(out, turn),
     }
     if out.rng.chance(20) {
@@ -167,7 +67,7 @@ pub fn close(out: &mut Writer) {
 /// Makes the entries fit again that lines of this section poke.
 fn repair(out: &mut Writer) {
     out.set_addresses();
-    out.set("pending", 0, 0);
+    out.set_pending(0, 0, 0);
     for place in ranged_places() {
         if place.table != "address" && place.place < POKED_PLACES {
             let value = place.fit_value(&mut out.rng);
@@ -181,6 +81,14 @@ fn odd_lines(out: &mut Writer, turn: usize) {
     for line in 0..LINES {
         out.raw(ODD_LINES[(LINES * turn + line) % ODD_LINES.len()]);
     }
+}
+
+/// Lines at and past the limits, each in its turn.
+fn limit_lines(out: &mut Writer, turn: usize) {
+    for line in 0..LINES {
+        out.call(LIMIT_LINES[(LINES * turn + line) % LIMIT_LINES.len()]);
+    }
+    repair(out);
 }
 
 /// Readable lines spoiled, each on the card as the one before left it.
@@ -209,10 +117,12 @@ fn spoiled(out: &mut Writer) -> Vec<u8> {
     words.join(rng.pick(&[" ", " ", " ", "  ", "\t"])).into_bytes()
 }
 
-/// Every number of a readable line replaced by each odd one.
+/// Each odd number in turn, in the place of several numbers of readable lines.
 fn numbers(out: &mut Writer, turn: usize) {
     let number = ODD_NUMBERS[turn % ODD_NUMBERS.len()];
-    let lines = [
+    let table = out.rng.pick(&POKED_TABLES);
+    let place = out.rng.below(POKED_PLACES);
+    let mut lines = [
         format!("probe {number} 1"),
         format!("probe 1 {number}"),
         format!("governor {number}"),
@@ -226,15 +136,19 @@ fn numbers(out: &mut Writer, turn: usize) {
         format!("request change 3 {number} 01 02"),
         format!("request bits {number} 4112 01 / 02"),
         format!("request bits 3 {number} 01 / 02"),
+        format!("poke memory {number} 1"),
+        format!("poke memory {place} {number}"),
+        format!("poke {table} {number} 1"),
     ];
-    for line in lines {
+    out.rng.shuffle(&mut lines);
+    for line in &lines[..LINES] {
         out.raw(line.as_bytes());
     }
-    for table in SMALL_TABLES.into_iter().chain(["memory"]) {
-        out.raw(format!("poke {table} {number} 1").as_bytes());
-        let place = out.rng.below(POKED_PLACES);
-        out.raw(format!("poke {table} {place} {number}").as_bytes());
-    }
+    let table = out.rng.pick(&POKED_TABLES);
+    out.raw(format!("poke {table} {place} {number}").as_bytes());
+    out.set_pending(0, 0, 0);
+    out.raw(format!("poke pending {number} 1").as_bytes());
+    out.raw(format!("poke pending {place} {number}").as_bytes());
     repair(out);
 }
 
@@ -292,7 +206,8 @@ fn readable(out: &mut Writer) -> Vec<String> {
     let rng = &mut out.rng;
     let to = out.addresses;
     let byte = rng.byte();
-    let table = rng.pick(&SMALL_TABLES);
+    let shown = rng.pick(&SMALL_TABLES);
+    let poked = rng.pick(&POKED_TABLES);
     let line = match rng.below(14) {
         0 => format!("probe {} {byte}", byte % 5),
         1 => "restart".to_owned(),
@@ -310,8 +225,8 @@ fn readable(out: &mut Writer) -> Vec<String> {
             format!("request bits 3 4112{masks} /{states}")
         }
         11 => format!("step 38{}", hex_words(&rng.bytes(usize::from(byte % 4)))),
-        12 => format!("poke {table} {} {byte}", byte % 3),
-        _ => format!("peek {table}"),
+        12 => format!("poke {poked} {} {byte}", byte % 3),
+        _ => format!("peek {shown}"),
     };
     line.split(' ').map(str::to_owned).collect()
 }

@@ -2,54 +2,57 @@
 //!
 //! What is fed to `step` is what the card answered, so these scripts are followed in the reference library.
 
+mod request;
+
 use super::dialect::send_valid;
-use crate::card::{self, ranged_places, Place, MEMORY, MEMORY_END, MEMORY_START};
+use crate::card::{ranged_places, Place, IA_MOST, MEMORY, MEMORY_START};
 use crate::damage::damaged;
 use crate::frames::datalink::{
-    acknowledge, interrogate, message, valid_change, valid_interrogate, writable_address, Datalink,
-    CHANGE, CHANGE_BITS,
+    acknowledge, interrogate, message, valid_change, valid_interrogate, Datalink, CHANGE, CHANGE_BITS,
 };
 use crate::frames::{lecom::Lecom, love::Love, lucid::Lucid, Dialect};
 use crate::image::Image;
+use crate::master::ROUNDS;
 use crate::rng::Rng;
 use crate::text::{bytes_of, hex_words, words};
-use crate::writer::{Addresses, Writer, ANSWER_ROOM};
+use crate::writer::{Writer, ANSWER_ROOM};
+use request::Request;
 
-/// Most bytes of a request, and most pairs of mask and state.
-const BYTES_MOST: usize = 32;
-const BITS_MOST: usize = 16;
-/// Steps of one exchange that are not refused: one sends the change, three close the rounds.
-const STEPS_MOST: usize = 4;
+/// Steps of an exchange that are not refused: one sends the change, the others close a round each.
+const STEPS_MOST: usize = ROUNDS + 1;
 
 /// How bad a line is, each entry in percent.
 struct Conditions {
-    /// A frame does not arrive.
-    lost: usize,
-    /// A frame arrives twice.
+    /// The frame of the first, second, third round does not arrive.
+    lost: [usize; ROUNDS],
+    /// A frame arrives twice, seldom once more.
     doubled: usize,
     /// No answer reaches the master though there is one.
     unheard: usize,
-    /// A room is too short.
+    /// A step's room is too short, and the step is taken again.
     cramped: usize,
+    /// An arrival's room is too short.
+    refused: usize,
     /// Another call comes between.
     busy: usize,
     /// A restart comes between.
     restarted: usize,
     /// The card is at another I.A. for a while.
     moved: usize,
-    /// The master gets an answer that the line would not bring, or someone else's change is accepted.
-    misled: usize,
+    /// In one round the master gets an answer that the line would not bring.
+    is_misled: bool,
 }
 
 const LOSSLESS: Conditions = Conditions {
-    lost: 0,
+    lost: [0; ROUNDS],
     doubled: 30,
     unheard: 0,
     cramped: 0,
+    refused: 0,
     busy: 0,
     restarted: 0,
     moved: 0,
-    misled: 0,
+    is_misled: false,
 };
 const BUSY: Conditions = Conditions {
     cramped: 10,
@@ -57,30 +60,33 @@ const BUSY: Conditions = Conditions {
     ..LOSSLESS
 };
 const LOSSY: Conditions = Conditions {
-    lost: 15,
-    unheard: 15,
+    lost: [15, 40, 15],
+    unheard: 10,
     ..LOSSLESS
 };
 const ROUGH: Conditions = Conditions {
-    lost: 10,
+    lost: [10; ROUNDS],
     unheard: 5,
     cramped: 15,
+    refused: 15,
     busy: 30,
     restarted: 10,
     moved: 8,
     ..LOSSLESS
 };
 const MISLED: Conditions = Conditions {
-    busy: 10,
-    misled: 40,
+    is_misled: true,
     ..LOSSLESS
 };
 /// The lines, in the order of their turns.
-const LINES: [Conditions; 6] = [LOSSLESS, LOSSY, BUSY, ROUGH, MISLED, ROUGH];
+const LINES: [Conditions; 6] = [LOSSLESS, LOSSY, BUSY, MISLED, ROUGH, MISLED];
 
-/// Writes the next exchange.
+/// Writes the next exchange, seldom one whose request is refused.
 pub fn scene(out: &mut Writer) {
     let conditions = &LINES[out.turn % LINES.len()];
+    if out.rng.chance(20) {
+        out.move_card();
+    }
     if out.rng.chance(10) {
         refused_request(out);
         return;
@@ -97,95 +103,6 @@ pub fn scene(out: &mut Writer) {
     out.peek(true);
 }
 
-/// What the master is to ask.
-struct Request {
-    ia: u8,
-    address: u16,
-    data: Data,
-}
-
-/// Bytes, or masks and states.
-enum Data {
-    Bytes(Vec<u8>),
-    Bits(Vec<u8>, Vec<u8>),
-}
-
-impl Request {
-    /// A request that 7 does not refuse; its range is mostly writable.
-    fn draw(rng: &mut Rng, to: &Addresses) -> Self {
-        let is_bits = rng.chance(50);
-        let most = if is_bits { BITS_MOST } else { BYTES_MOST };
-        let inside = rng.below(most + 1);
-        let count = rng.pick(&[0, 1, 2, most, inside, inside, inside]);
-        let ia = if rng.chance(95) {
-            to.ia
-        } else {
-            rng.between(0, card::IA_MOST) as u8
-        };
-        let data = if is_bits {
-            Data::Bits(force_bytes(rng, count), force_bytes(rng, count))
-        } else {
-            Data::Bytes(rng.bytes(count))
-        };
-        Self {
-            ia,
-            address: address(rng, count as u8),
-            data,
-        }
-    }
-
-    /// The line of this request.
-    fn line(&self) -> String {
-        let Self { ia, address, data } = self;
-        match data {
-            Data::Bytes(bytes) => format!("request change {ia} {address}{}", hex_words(bytes)),
-            Data::Bits(masks, states) => {
-                let (masks, states) = (hex_words(masks), hex_words(states));
-                format!("request bits {ia} {address}{masks} /{states}")
-            }
-        }
-    }
-
-    /// For each named byte in the memory its place and a value that is as asked.
-    fn places(&self) -> Vec<(usize, u8)> {
-        let wanted = match &self.data {
-            Data::Bytes(bytes) => bytes,
-            Data::Bits(_, states) => states,
-        };
-        let named = (usize::from(self.address)..).zip(wanted.iter().copied());
-        named
-            .filter(|(address, _)| {
-                (usize::from(MEMORY_START)..usize::from(MEMORY_END)).contains(address)
-            })
-            .map(|(address, byte)| (address - usize::from(MEMORY_START), byte))
-            .collect()
-    }
-}
-
-/// Masks or states: often such that only a few bits are forced, or all or none.
-fn force_bytes(rng: &mut Rng, count: usize) -> Vec<u8> {
-    (0..count)
-        .map(|_| {
-            let bit = 1 << rng.below(8);
-            let any = rng.byte();
-            rng.pick(&[0x00, 0xFF, bit, !bit, any, any])
-        })
-        .collect()
-}
-
-/// Where a request's bytes begin: writable, read-only, half outside, outside or far off.
-fn address(rng: &mut Rng, count: u8) -> u16 {
-    let half = u16::from(count / 2);
-    let end = MEMORY_END - u16::from(count);
-    match rng.below(12) {
-        0 => rng.between(0x1000, 0x100F) as u16,
-        1 => rng.pick(&[MEMORY_END - half, end + 1, MEMORY_END]),
-        2 => rng.pick(&[MEMORY_START - half, MEMORY_START - 1]),
-        3 => rng.pick(&[0, 0x8000, 0xFFFF - u16::from(count), 0x2010]),
-        _ => writable_address(rng, count),
-    }
-}
-
 /// Brings the card to the exchange's start: bytes old or as asked already, probes, a stale pending change, or an
 /// entry that makes it unfit, which is given back.
 fn set_scene(out: &mut Writer, request: &Request) -> Option<Place> {
@@ -194,11 +111,7 @@ fn set_scene(out: &mut Writer, request: &Request) -> Option<Place> {
     }
     let kept = out.rng.pick(&[0, 0, 50, 100]);
     for (place, wanted) in request.places() {
-        let value = if out.rng.chance(kept) {
-            wanted
-        } else {
-            out.rng.byte()
-        };
+        let value = if out.rng.chance(kept) { wanted } else { out.rng.byte() };
         out.set(MEMORY, place, i64::from(value));
     }
     if out.rng.chance(30) {
@@ -219,21 +132,9 @@ fn set_scene(out: &mut Writer, request: &Request) -> Option<Place> {
     unfit
 }
 
-/// A request that 7 refuses, and steps that move nothing; rooms too short come after it.
+/// A request that 7 refuses, and steps that move nothing, whatever their room.
 fn refused_request(out: &mut Writer) {
-    let bytes = |count: usize| " 5A".repeat(count);
-    let line = match out.rng.below(10) {
-        0 => format!("request change 32 4112{}", bytes(2)),
-        1 => format!("request change 4294967295 4112{}", bytes(2)),
-        2 => format!("request change 3 65536{}", bytes(0)),
-        3 => format!("request change 3 65535{}", bytes(2)),
-        4 => format!("request change 3 4112{}", bytes(33)),
-        5 => format!("request bits 3 4112{} /{}", bytes(17), bytes(17)),
-        6 => format!("request bits 3 4112{} /{}", bytes(3), bytes(2)),
-        7 => format!("request bits 3 4112{} /{}", bytes(0), bytes(1)),
-        8 => format!("request bits 3 65530{} /{}", bytes(7), bytes(7)),
-        _ => format!("request change 3 4294967295{}", bytes(9000)),
-    };
+    let line = request::refused(&mut out.rng);
     out.call(&line);
     out.call("step 38");
     out.call("step 37");
@@ -249,6 +150,10 @@ struct Exchange<'w, 'a> {
     /// Answers of this round, and of the rounds before.
     answers: Vec<Vec<u8>>,
     stale: Vec<Vec<u8>>,
+    /// Steps that were not refused.
+    steps: usize,
+    /// The step that gets a wrong answer, if any.
+    misled_step: Option<usize>,
     is_ended: bool,
     /// Whether the card answers to another I.A. at present.
     is_away: bool,
@@ -256,12 +161,15 @@ struct Exchange<'w, 'a> {
 
 impl<'w, 'a> Exchange<'w, 'a> {
     fn new(out: &'w mut Writer<'a>, line: &'w Conditions) -> Self {
+        let misled_step = line.is_misled.then(|| out.rng.pick(&[0, 1, 2, 3, 3, 3]));
         Self {
             out,
             line,
             frame: Vec::new(),
             answers: Vec::new(),
             stale: Vec::new(),
+            steps: 0,
+            misled_step,
             is_ended: false,
             is_away: false,
         }
@@ -293,10 +201,10 @@ impl<'w, 'a> Exchange<'w, 'a> {
 
     /// How often the frame arrives in this round.
     fn arrivals(&mut self) -> usize {
-        if self.chance(self.line.lost) {
+        if self.chance(self.line.lost[self.steps - 1]) {
             0
         } else if self.chance(self.line.doubled) {
-            2
+            self.out.rng.pick(&[2, 2, 2, 3])
         } else {
             1
         }
@@ -304,7 +212,7 @@ impl<'w, 'a> Exchange<'w, 'a> {
 
     /// The frame last sent arrives, seldom with too little room for its answer.
     fn arrive(&mut self) {
-        let room = if self.chance(self.line.cramped) && self.line.lost > 0 {
+        let room = if self.chance(self.line.refused) {
             self.out.rng.below(ANSWER_ROOM)
         } else {
             ANSWER_ROOM
@@ -337,11 +245,12 @@ impl<'w, 'a> Exchange<'w, 'a> {
             self.frame = bytes_of(reply).unwrap_or_default();
         }
         self.stale.append(&mut self.answers);
+        self.steps += 1;
     }
 
     /// What reaches the master: none or one of the round's answers, or on a misleading line anything.
     fn heard(&mut self) -> Vec<u8> {
-        if self.chance(self.line.misled) {
+        if self.misled_step == Some(self.steps) {
             return self.misleading();
         }
         if self.answers.is_empty() || self.chance(self.line.unheard) {
@@ -353,21 +262,26 @@ impl<'w, 'a> Exchange<'w, 'a> {
 
     /// A damaged answer, one of an earlier round, the frame itself, or noise.
     fn misleading(&mut self) -> Vec<u8> {
-        let answer = self.answers.first().cloned().unwrap_or_default();
+        let mut answer = self.answers.first().cloned().unwrap_or_default();
         let rng = &mut self.out.rng;
         let place = rng.below(answer.len().max(1));
-        match rng.below(8) {
-            0 | 1 => damaged(rng, &answer, place),
-            2 | 3 => {
-                let mut resealed = damaged(rng, &answer, place);
-                Datalink::seal(&mut resealed);
-                resealed
+        match rng.below(10) {
+            0..=2 => damaged(rng, &answer, place),
+            3 | 4 => {
+                answer = damaged(rng, &answer, place);
+                Datalink::seal(&mut answer);
+                answer
             }
-            4 | 5 if !self.stale.is_empty() => {
+            5 | 6 if !answer.is_empty() => {
+                answer[place] ^= 1 << rng.below(8);
+                Datalink::seal(&mut answer);
+                answer
+            }
+            7 | 8 if !self.stale.is_empty() => {
                 let choice = rng.below(self.stale.len());
                 self.stale[choice].clone()
             }
-            6 => self.frame.clone(),
+            8 => self.frame.clone(),
             _ => {
                 let length = rng.below(60);
                 rng.bytes(length)
@@ -386,7 +300,7 @@ impl<'w, 'a> Exchange<'w, 'a> {
         if self.chance(self.line.busy) {
             self.other_call();
         }
-        if self.line.misled > 0 && self.chance(10) {
+        if self.line.is_misled && self.chance(5) {
             let ia = self.out.addresses.ia;
             let other = Datalink::valid(&mut self.out.rng, &self.out.addresses);
             let frame = self.out.rng.pick(&[&other[..], &acknowledge(ia)]).to_vec();
@@ -398,7 +312,7 @@ impl<'w, 'a> Exchange<'w, 'a> {
     fn move_card(&mut self) {
         let mut addresses = self.out.addresses;
         if !self.is_away {
-            addresses.ia = (addresses.ia + 1) % (card::IA_MOST as u8 + 1);
+            addresses.ia = (addresses.ia + 1) % (IA_MOST as u8 + 1);
         }
         let image = Image::fit(&mut self.out.rng, &addresses);
         self.out.load(&image.bytes());

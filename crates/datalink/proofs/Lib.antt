@@ -1,0 +1,4 @@
+pub mod Frames
+pub mod Responses
+pub mod Pendings
+pub mod Replies

@@ -1,0 +1,12 @@
+-- `datalink::form::Datalink::fits` meets its contract: the tests are those of the definition. Assumes nothing.
+use borrow.Author.Needs.{needs}
+use Rattle.datalink.specs.Frame.{lengthRight}
+use Rattle.datalink.proofs.form.Datalink.fits.Statement.{statement}
+use Rattle.datalink.proofs.form.Datalink.fits.Tie as tie
+
+returns : tie.Need-returns
+unfolding lengthRight
+returns c = search needs
+
+pub fits-spec : {M : Type 1} → statement M
+fits-spec = tie.close (tie.spec returns)

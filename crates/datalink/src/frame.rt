@@ -1,0 +1,171 @@
+// What a Datalink frame asks.
+use crate::form::Datalink;
+use card::fitness;
+use card::fitness::CHANGE;
+use card::fitness::CHANGE_BITS;
+use card::fitness::NO_CHANGE;
+use card::numbers::CHECK_CHARACTER;
+use card::numbers::COMMAND_UNKNOWN;
+use card::numbers::FOREIGN_ADDRESS;
+use card::numbers::FRAME_FORM;
+use card::numbers::RANGE_UNKNOWN;
+use card::numbers::READ_ONLY;
+ghost use mathlib.Core.Path.{_≡_};
+ghost use mathlib.Core.Bool.{true};
+ghost use Prim.Native.Nat.{_≤_};
+ghost use lib.Dec.{eqb};
+ghost use lib.ListN.{length};
+ghost use Rattle.wire.specs.Choose.{choose};
+ghost use Rattle.card.specs.Numbers.{rangeUnknown, readOnly};
+ghost use Rattle.card.specs.Tables.{noChange, inMemory};
+ghost use Rattle.datalink.specs.Frame.{iaIn, commandIn, kindOf, commandKnown, carried, formRight, lrcRight, rangeRight, changeAllowed, changeRight, orderIn, unless, asked, shortest};
+
+// What a frame asks: the bytes from an address, a change of its kind and NUM, that the pending change be applied, or nothing.
+pub enum Order {
+    Refused(u8),
+    Interrogate(u16, u8),
+    Change(u8, u8),
+    Acknowledge,
+}
+
+// The I.A. of a frame.
+fn ia_in(f: &[u8]) -> u32
+    requires { ⌜ shortest ≤ length (now f) ⌝ }
+    ensures { λ r. ⌜ r ≡ iaIn (now (f .entry)) ⌝ }
+{
+    (f[1] % Datalink::IA_VALUES) as u32
+}
+
+// The command bits of a frame.
+fn command_in(f: &[u8]) -> u8
+    requires { ⌜ shortest ≤ length (now f) ⌝ }
+    ensures { λ r. ⌜ r ≡ commandIn (now (f .entry)) ⌝ }
+{
+    f[1] / Datalink::IA_VALUES * Datalink::IA_VALUES
+}
+
+// Whether a command is one of the four.
+fn command_known(command: u8) -> bool
+    ensures { λ r. ⌜ r ≡ commandKnown command ⌝ }
+{
+    (command == Datalink::ACKNOWLEDGE)
+        | ((command == Datalink::INTERROGATE)
+            | ((command == Datalink::CHANGE) | (command == Datalink::CHANGE_BITS)))
+}
+
+// The kind of change that a command asks for.
+fn kind_of(command: u8) -> u8
+    ensures { λ r. ⌜ r ≡ kindOf command ⌝ }
+{
+    if command == Datalink::CHANGE {
+        return CHANGE;
+    }
+    if command == Datalink::CHANGE_BITS {
+        return CHANGE_BITS;
+    }
+    NO_CHANGE
+}
+
+// How many data bytes a frame of NUM carries.
+fn data_carried(kind: u8, num: u8) -> u8
+    ensures { λ r. ⌜ r ≡ carried kind num ⌝ }
+{
+    if kind == NO_CHANGE {
+        return 0;
+    }
+    num
+}
+
+// Length and NUM.
+fn form_right(f: &[u8]) -> bool
+    requires { ⌜ shortest ≤ length (now f) ⌝ }
+    ensures { λ r. ⌜ r ≡ formRight (now (f .entry)) ⌝ }
+{
+    let command = command_in(f);
+    if command == Datalink::ACKNOWLEDGE {
+        return f.len() == Datalink::SHORTEST;
+    }
+    if f.len() < Datalink::BARE {
+        return false;
+    }
+    let kind = kind_of(command);
+    let num = f[Datalink::NUM];
+    let data = data_carried(kind, num);
+    let right = fitness::num_right(kind, num);
+    (f.len() == Datalink::BARE + data as usize) & right
+}
+
+// The LRC.
+fn lrc_right(f: &[u8]) -> bool
+    requires { ⌜ shortest ≤ length (now f) ⌝ }
+    ensures { λ r. ⌜ r ≡ lrcRight (now (f .entry)) ⌝ }
+{
+    let command = command_in(f);
+    let last = f.len() - 1;
+    let sum = wire::sum(&f[1..last]);
+    (command == Datalink::ACKNOWLEDGE) | (sum == f[last])
+}
+
+// Range, read-only and the order itself, for a frame whose form and LRC are right.
+fn order_in(f: &[u8]) -> Order
+    requires { ⌜ (shortest ≤ length (now f)) × (formRight (now f) ≡ true) ⌝ }
+    ensures { λ r. ⌜ r ≡ unless (rangeRight (now (f .entry))) rangeUnknown (unless (changeRight (now (f .entry))) readOnly (orderIn (now (f .entry)))) ⌝ }
+{
+    let command = command_in(f);
+    if command == Datalink::ACKNOWLEDGE {
+        return Order::Acknowledge;
+    }
+    let kind = kind_of(command);
+    let num = f[Datalink::NUM];
+    let at = fitness::address(f[Datalink::LOW_ADDRESS], f[Datalink::HIGH_ADDRESS]);
+    order_at(kind, num, at, fitness::bytes_named(kind, num))
+}
+
+// Whether the n bytes named may be asked for by a frame of this kind.
+fn change_allowed(kind: u8, at: u16, n: u8) -> bool
+    ensures { λ r. ⌜ r ≡ changeAllowed kind at n ⌝ }
+{
+    let fixed = fitness::names_read_only(at, n);
+    (kind == NO_CHANGE) | !fixed
+}
+
+// Range, read-only and the order for a frame of this kind and NUM that names n bytes.
+fn order_at(kind: u8, num: u8, at: u16, n: u8) -> Order
+    ensures { λ r. ⌜ r ≡ unless (inMemory at n) rangeUnknown (unless (changeAllowed kind at n) readOnly (choose (eqb kind noChange) (Order.Interrogate at num) (Order.Change kind num))) ⌝ }
+{
+    if !fitness::in_memory(at, n) {
+        return Order::Refused(RANGE_UNKNOWN);
+    }
+    if !change_allowed(kind, at, n) {
+        return Order::Refused(READ_ONLY);
+    }
+    if kind == NO_CHANGE {
+        return Order::Interrogate(at, num);
+    }
+    Order::Change(kind, num)
+}
+
+// What the frame f asks of the unit at ia.
+pub fn order_of(ia: u32, f: &[u8]) -> Order
+    ensures { λ r. ⌜ r ≡ asked ia (now (f .entry)) ⌝ }
+{
+    if !Datalink::fits(f.len()) {
+        return Order::Refused(FRAME_FORM);
+    }
+    if f[0] != Datalink::START {
+        return Order::Refused(FRAME_FORM);
+    }
+    if ia_in(f) != ia {
+        return Order::Refused(FOREIGN_ADDRESS);
+    }
+    if !command_known(command_in(f)) {
+        return Order::Refused(COMMAND_UNKNOWN);
+    }
+    if !form_right(f) {
+        return Order::Refused(FRAME_FORM);
+    }
+    if !lrc_right(f) {
+        return Order::Refused(CHECK_CHARACTER);
+    }
+    order_in(f)
+}
