@@ -3,28 +3,16 @@
 use Prim.Native.Nat.{ℕ, _*_, _-_, _<_}
 use mathlib.Core.Path.{_≡_, refl, ap}
 use mathlib.Core.Bool.{Bool, true, false, not, cond}
-use lib.IntN.{ℤ, pos, negsuc}
+use lib.IntN.{pos}
 use lib.Dec.{T, eqb, eqb→eq, ltb}
 use lib.Count.{trailingZeros}
 use lib.Ieee.{Float, nan, inf, fin, binary32, odd, round, units, size, span, climb, sum, add, neg, sub, mul, ofInt, ofBits, ofFields, toBits, fits, up, down}
 use Rattle.wire.specs.Choose.{choose}
 use Rattle.card.specs.Probe.{faultCode}
 use Rattle.card.specs.Governor.{degreesOf, zeroCode}
-use Rattle.card.proofs.Sweep.{both, both-left, both-right, at}
+use Rattle.card.proofs.Sweep.{both, both-left, both-right, sameZ, sameZ→eq, at}
 
 -- two floats are the same data, as a test
-abbrev sameZ : ℤ → ℤ → Bool
-sameZ (pos a) (pos b) = eqb a b
-sameZ (pos a) (negsuc b) = false
-sameZ (negsuc a) (pos b) = false
-sameZ (negsuc a) (negsuc b) = eqb a b
-
-sameZ→eq : (a b : ℤ) → T (sameZ a b) → a ≡ b
-sameZ→eq (pos a) (pos b) t = ap pos (eqb→eq a b t)
-sameZ→eq (pos a) (negsuc b) t = absurd t
-sameZ→eq (negsuc a) (pos b) t = absurd t
-sameZ→eq (negsuc a) (negsuc b) t = ap negsuc (eqb→eq a b t)
-
 abbrev sameB : Bool → Bool → Bool
 sameB true b = b
 sameB false b = not b

@@ -3,3 +3,4 @@ pub mod Facts
 pub mod Replies
 pub mod Sweep
 pub mod Floats
+pub mod Probes

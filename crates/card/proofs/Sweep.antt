@@ -1,10 +1,11 @@
 -- A test that holds at each number below n, by one computed sweep. Assumes nothing.
 use Prim.Native.Nat.{ℕ, zero, suc, _<_}
-use mathlib.Core.Path.{_≡_, subst, sym}
+use mathlib.Core.Path.{_≡_, subst, sym, ap}
 use mathlib.Core.Bool.{Bool, true, false}
 use native.Mathlib.Nat.{not-suc-le-zero, eq-or-lt-of-le, le-of-suc-le-suc}
 use mathlib.Core.Logic.{⊎-elim}
-use lib.Dec.{T}
+use lib.Dec.{T, eqb, eqb→eq}
+use lib.IntN.{ℤ, pos, negsuc}
 
 abbrev pub both : Bool → Bool → Bool
 both true b = b
@@ -29,3 +30,16 @@ at f (suc n) t k h =
     ⊎-elim (λ (e : k ≡ n). subst (λ (m : ℕ). T (f m)) (sym e) (both-left (f n) (all f n) t))
     (λ l. at f n (both-right (f n) (all f n) t) k l)
     (eq-or-lt-of-le (le-of-suc-le-suc h))
+
+-- two integers are the same, as a test
+abbrev pub sameZ : ℤ → ℤ → Bool
+sameZ (pos a) (pos b) = eqb a b
+sameZ (pos a) (negsuc b) = false
+sameZ (negsuc a) (pos b) = false
+sameZ (negsuc a) (negsuc b) = eqb a b
+
+pub sameZ→eq : (a b : ℤ) → T (sameZ a b) → a ≡ b
+sameZ→eq (pos a) (pos b) t = ap pos (eqb→eq a b t)
+sameZ→eq (pos a) (negsuc b) t = absurd t
+sameZ→eq (negsuc a) (pos b) t = absurd t
+sameZ→eq (negsuc a) (negsuc b) t = ap negsuc (eqb→eq a b t)

@@ -34,6 +34,9 @@ const LONG_KINDS: usize = 7;
 /// Writes the next scene.
 pub fn scene(out: &mut Writer) {
     let turn = out.turn / SCENES;
+    if out.calls() == 0 {
+        no_request(out);
+    }
     match out.turn % SCENES {
         0 => odd_lines(out, turn),
         1 | 2 => spoiled_lines(out),
@@ -73,6 +76,13 @@ fn repair(out: &mut Writer) {
             let value = place.fit_value(&mut out.rng);
             out.set(place.table, place.place, value);
         }
+    }
+}
+
+/// Steps before the first request, readable or not.
+fn no_request(out: &mut Writer) {
+    for line in ["step 38", "step 0 7E", "step 1025", "step 38 7", "step"] {
+        out.call(line);
     }
 }
 

@@ -1,0 +1,44 @@
+-- The probe reading over all codes: 255 is the fault, and every other code is 5 × code − 400 tenths, within −400 to 870. Assumes nothing.
+use Prim.Native.Nat.{ℕ, _*_, _<_}
+use mathlib.Core.Path.{_≡_, refl}
+use mathlib.Core.Bool.{Bool, true, false}
+use lib.IntN.{ℤ, subℕ}
+use lib.Dec.{T, eqb}
+use mir.Syntax.{w32}
+use mir.Val.{toZ}
+use borrow.Author.Tests.{ne-eqb}
+use native.Mathlib.Omega.{arith}
+use Rattle.wire.specs.Choose.{choose}
+use Rattle.wire.specs.Word.{minus}
+use Rattle.wire.proofs.Cases.{no}
+use Rattle.card.specs.Tables.{inSpan}
+use Rattle.card.specs.Probe.{faultCode, tenthsPerCode, tenthsBelow, tenthsOf, readingOf}
+use Rattle.card.specs.declared.probe.Reading.the-variants.{Temperature, Fault}
+use Rattle.card.proofs.Sweep.{sameZ, sameZ→eq, at}
+
+-- the warmest temperature, of code 254
+abbrev pub tenthsMost : ℕ
+tenthsMost = 870
+
+pub fault-read : readingOf faultCode ≡ Fault
+unfolding readingOf choose
+fault-read = refl
+
+-- what is known of a code that is a temperature
+pub record Temperate (code : ℕ) : Type 0 where
+  pub taken : readingOf code ≡ Temperature (record { 0 = tenthsOf code })
+  pub exact : toZ w32 (tenthsOf code) ≡ subℕ (tenthsPerCode * code) tenthsBelow
+  pub within : inSpan (minus tenthsBelow) tenthsMost (tenthsOf code) ≡ true
+
+T-true : (b : Bool) → T b → b ≡ true
+T-true true t = refl
+T-true false t = absurd t
+
+pub temperature-read : (code : ℕ) → code < faultCode → Temperate code
+unfolding readingOf tenthsOf inSpan choose
+temperature-read code h =
+    record {
+      taken = rw (ne-eqb code faultCode (λ e. let z : ⊥ = omega arith in z));
+      exact = sameZ→eq _ _ (at (λ n. sameZ (toZ w32 (tenthsOf n)) (subℕ (tenthsPerCode * n) tenthsBelow)) faultCode tt code h);
+      within = T-true _ (at (λ n. inSpan (minus tenthsBelow) tenthsMost (tenthsOf n)) faultCode tt code h);
+    }

@@ -1,0 +1,40 @@
+-- A checked example: calls on a card, each with the reply that document 01 prints for it.
+use Prim.Native.Nat.{ℕ}
+use mathlib.Core.Bool.{Bool, true, false, _&&_}
+use mathlib.Core.List.{List, [], _∷_}
+use lib.Dec.{eqb}
+use Rattle.card.specs.Layout.{Card}
+use Rattle.card.specs.Reply.{Reply, roomLeast}
+use Rattle.card.specs.Entries.{setCode}
+use Rattle.datalink.specs.Answer.{datalinkReply}
+
+-- a call of the card
+pub data Call : Type 0 where
+  code : ℕ → ℕ → Call
+  datalink : List ℕ → Call
+
+-- its reply, with the smallest answer buffer
+abbrev pub replyTo : Card → Call → Reply
+replyTo card (code channel value) = setCode card channel value
+replyTo card (datalink f) = datalinkReply card roomLeast f
+
+-- a call with its number and wire bytes
+pub record Line : Type 0 where
+  pub call : Call
+  pub number : ℕ
+  pub bytes : List ℕ
+
+abbrev pub same : List ℕ → List ℕ → Bool
+same [] [] = true
+same [] (y ∷ ys) = false
+same (x ∷ xs) [] = false
+same (x ∷ xs) (y ∷ ys) = eqb x y && same xs ys
+
+-- a reply is the one printed, and the lines after it hold on the card as it then stands
+abbrev pub heldBy : Line → Reply → Bool
+heldBy line reply = eqb (reply .number) (line .number) && same (reply .bytes) (line .bytes)
+
+-- every line of an example holds, each on the card as the last one left it
+abbrev pub holds : Card → List Line → Bool
+holds card [] = true
+holds card (line ∷ rest) = let reply = replyTo card (line .call) in heldBy line reply && holds (reply .card) rest
