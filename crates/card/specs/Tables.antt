@@ -97,15 +97,18 @@ lecomLeast = 11
 abbrev pub lecomMost : ℕ
 lecomMost = 99
 
+abbrev pub lecomRight : ℕ → Bool
+lecomRight lecom = leb lecomLeast lecom && (leb lecom lecomMost && not (eqb (lecom % 10) 0))
+
 -- "Love 1 to 3FFh, low two hex figures not 00"
 abbrev pub loveMost : ℕ
 loveMost = 0x3FF
 
+abbrev pub loveRight : ℕ → Bool
+loveRight love = leb love loveMost && not (eqb (love % 256) 0)
+
 unfoldable pub fitAddresses : ℕ → ℕ → ℕ → Bool
-fitAddresses ia lecom love =
-    leb ia iaMost
-    && ((leb lecomLeast lecom && (leb lecom lecomMost && not (eqb (lecom % 10) 0)))
-    && (leb love loveMost && not (eqb (love % 256) 0)))
+fitAddresses ia lecom love = leb ia iaMost && (lecomRight lecom && loveRight love)
 
 -- "Love parameters SP1, SP2, ALLO, ALHI, each −400 to 870 tenths"
 abbrev pub loveLeast : ℕ

@@ -18,7 +18,7 @@ ghost use mathlib.Core.Path.{_≡_};
 ghost use Prim.Native.Nat.{_<_};
 ghost use lib.ListN.{length};
 ghost use Rattle.card.specs.Layout.{cardOf, wordCount, pendingSize};
-ghost use Rattle.card.specs.Tables.{inSpan, allIn, inMemory, namesReadOnly, named, numRight, echoable, addressOf, fitPending, fitAddresses, fitParameters, fitWords, fit};
+ghost use Rattle.card.specs.Tables.{inSpan, allIn, inMemory, namesReadOnly, named, numRight, echoable, addressOf, fitPending, lecomRight, loveRight, fitAddresses, fitParameters, fitWords, fit};
 
 // Datalink addresses: the first, the one after the last, and the first writable one.
 pub const MEMORY_START: u32 = 0x1000;
@@ -146,12 +146,26 @@ fn fit_pending(pending: &[u8]) -> bool
     (kind == NO_CHANGE) | echoed
 }
 
+// Whether a LECOM address is in its range.
+pub fn lecom_right(lecom: u32) -> bool
+    ensures { λ r. ⌜ r ≡ lecomRight lecom ⌝ }
+{
+    (LECOM_LEAST <= lecom) & ((lecom <= LECOM_MOST) & (lecom % 10 != 0))
+}
+
+// Whether a Love address is in its range.
+pub fn love_right(love: u32) -> bool
+    ensures { λ r. ⌜ r ≡ loveRight love ⌝ }
+{
+    (love <= LOVE_ADDRESS_MOST) & (love % 256 != 0)
+}
+
 // Whether the three addresses are in their ranges.
 fn fit_addresses(ia: u32, lecom: u32, love: u32) -> bool
     ensures { λ r. ⌜ r ≡ fitAddresses ia lecom love ⌝ }
 {
-    let lecom_fit = (LECOM_LEAST <= lecom) & ((lecom <= LECOM_MOST) & (lecom % 10 != 0));
-    let love_fit = (love <= LOVE_ADDRESS_MOST) & (love % 256 != 0);
+    let lecom_fit = lecom_right(lecom);
+    let love_fit = love_right(love);
     (ia <= IA_MOST) & (lecom_fit & love_fit)
 }
 

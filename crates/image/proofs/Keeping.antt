@@ -1,0 +1,43 @@
+-- What the two entries leave: a refusal changes no table, neither changes memory or the pending change, and a fit card stays fit. Assumes nothing.
+use mathlib.Core.Path.{_≡_, refl}
+use mathlib.Core.Bool.{true}
+use mathlib.Core.List.{List}
+use Prim.Native.Nat.{ℕ, _≤_}
+use native.Mathlib.Omega.{arith}
+use Rattle.wire.proofs.Cases.{by-choice}
+use Rattle.card.specs.Layout.{Card}
+use Rattle.card.specs.Numbers.{done, foreignAddress}
+use Rattle.card.specs.Tables.{fit}
+use Rattle.card.specs.Reply.{Reply, silent, Keeps}
+use Rattle.card.proofs.Replies.{keeps-silent, shell-keeps}
+use Rattle.image.specs.Form.{imageSize}
+use Rattle.image.specs.Saved.{restored}
+use Rattle.image.specs.Entries.{writeImage, readImage}
+
+pub write-keeps : (card : Card) (room : ℕ) → Keeps card (writeImage card room)
+unfolding writeImage
+write-keeps card room = shell-keeps imageSize card room _ (record { kept = λ _. refl })
+
+-- what holds of a reply that leaves the card, and of reading done, holds of reading
+by-order : (P : Reply → Type 0) (card : Card) (img : List ℕ) → ((n : ℕ) → P (silent n card)) → (fit card ≡ true → fit (restored card img) ≡ true → P (silent done (restored card img))) → P (readImage card img)
+unfolding readImage
+by-order P card img stay did =
+    by-choice P _ _ _
+    (λ f. by-choice P _ _ _ (λ _. by-choice P _ _ _ (λ _. by-choice P _ _ _ (λ r. did f r) (λ _. stay _)) (λ _. stay _)) (λ _. stay _))
+    (λ _. stay _)
+
+pub read-keeps : (card : Card) (img : List ℕ) → Keeps card (readImage card img)
+read-keeps card img = by-order (Keeps card) card img (λ n. keeps-silent n card) (λ _ _. record { kept = λ (h : foreignAddress ≤ done). let z : ⊥ = omega arith in absurd z })
+
+-- reading changes words alone
+pub read-memory : (card : Card) (img : List ℕ) → readImage card img .card .memory ≡ card .memory
+unfolding restored
+read-memory card img = by-order (λ (r : Reply). r .card .memory ≡ card .memory) card img (λ n. refl) (λ _ _. refl)
+
+pub read-pending : (card : Card) (img : List ℕ) → readImage card img .card .pending ≡ card .pending
+unfolding restored
+read-pending card img = by-order (λ (r : Reply). r .card .pending ≡ card .pending) card img (λ n. refl) (λ _ _. refl)
+
+-- a fit card stays fit
+pub read-fit : (card : Card) (img : List ℕ) → fit card ≡ true → fit (readImage card img .card) ≡ true
+read-fit card img t = by-order (λ (r : Reply). fit (r .card) ≡ true) card img (λ n. t) (λ _ f. f)
