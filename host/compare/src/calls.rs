@@ -6,8 +6,9 @@ pub const CALLS: [&str; 14] = [
     "peek", "help",
 ];
 
-/// What stands before the list in a `help` line, and between two calls.
+/// What stands before the list in a `help` line.
 const LIST_MARK: &str = "calls: ";
+/// What stands between two of its calls.
 const LIST_SEPARATOR: &str = "; ";
 
 /// The calls that take part in the scripts.

@@ -6,9 +6,11 @@ use crate::rng::Rng;
 pub const MEMORY: &str = "memory";
 /// Entries of the table of Datalink bytes.
 pub const MEMORY_PLACES: usize = 4096;
-/// The first Datalink address, the first writable one, and the first past the memory.
+/// The first Datalink address.
 pub const MEMORY_START: u16 = 0x1000;
+/// The first writable Datalink address.
 pub const WRITABLE_START: u16 = 0x1010;
+/// The first Datalink address past the memory.
 pub const MEMORY_END: u16 = 0x2000;
 /// The small tables, in the order in which scripts peek them.
 pub const SMALL_TABLES: [&str; 10] = [
@@ -32,15 +34,20 @@ pub const CHANNELS: usize = 4;
 /// Love parameters.
 pub const LOVE_PARAMETERS: usize = 4;
 
-/// Ranges of document 01, "What the card holds".
+/// The highest I.A. (this range and those below: document 01, "What the card holds").
 pub const IA_MOST: i64 = 31;
+/// The highest Love address.
 pub const LOVE_ADDRESS_MOST: i64 = 0x3FF;
+/// The lowest and highest LECOM register.
 pub const REGISTER_RANGE: (i64, i64) = (-999_999, 999_999);
+/// The lowest and highest Love parameter, in tenths.
 pub const LOVE_RANGE: (i64, i64) = (-400, 870);
+/// The lowest and highest fan demand.
 pub const DEMAND_RANGE: (i64, i64) = (0, 65_535);
+/// The lowest and highest value of the LucidControl parameters 1110h and 1120h.
 pub const PARAMETER_RANGES: [(i64, i64); 2] = [(1_000, 60_000_000), (0, 65_535)];
 
-/// Probe codes worth a look: both ends, zero degrees less one step, five degrees, the fault and its neighbour.
+/// Probe codes worth a look: both ends, a degree below zero, zero, five degrees, and the fault.
 pub const TELLING_CODES: [u8; 7] = [0, 1, 78, 80, 90, 254, 255];
 
 /// One entry of a table.

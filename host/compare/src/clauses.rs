@@ -86,6 +86,7 @@ struct Exchange {
 }
 
 impl Exchange {
+    /// An exchange before its first step, on the memory as it is.
     fn new(asked: Asked, old: Vec<u8>) -> Self {
         let new = asked.applied(&old);
         Self {

@@ -147,6 +147,7 @@ fn answers<'a>(script: &'a [&Line], output: &'a [u8]) -> impl Iterator<Item = (u
         .zip(output.split_inclusive(is_feed))
 }
 
+/// Whether a byte ends a line.
 fn is_feed(byte: &u8) -> bool {
     *byte == b'\n'
 }

@@ -31,6 +31,7 @@ use options::{Options, USAGE};
 /// The exit code for a command line or a program that cannot be used.
 const UNUSABLE: u8 = 2;
 
+/// Reads the command line and compares.
 fn main() -> ExitCode {
     let options = match Options::read(std::env::args().skip(1)) {
         Ok(options) => options,

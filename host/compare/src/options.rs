@@ -7,10 +7,13 @@ use crate::sections::SECTIONS;
 /// How the program is called.
 pub const USAGE: &str = "usage: compare [--seed N] [--calls N] [--console PATH] [--reference PATH] [--section NAME]";
 
-/// Defaults; the paths are those of the repository's root.
+/// The seed if none is given.
 const SEED: u64 = 1;
+/// The calls if no number is given.
 const CALLS: usize = 20_000;
+/// The console, seen from the repository's root.
 const CONSOLE: &str = "console";
+/// The second program, seen from the repository's root.
 const REFERENCE: &str = "host/reference/target/release/reference";
 
 /// What the command line asks for.

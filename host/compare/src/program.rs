@@ -51,7 +51,7 @@ pub fn ask(program: &Path, line: &str) -> Result<String, String> {
     .recv_timeout(ANSWER_LIMIT);
     drop(input);
     child.kill().and_then(|()| child.wait()).map_err(failed)?;
-    let answer = answer.map_err(|_| format!("{}: no answer to {line}", program.display()))?;
+    let answer = answer.map_err(|_| format!("{}: no answer to {}", program.display(), line.trim_end()))?;
     String::from_utf8(answer.map_err(failed)?).map_err(|error| format!("{}: {error}", program.display()))
 }
 

@@ -7,8 +7,9 @@ use crate::calls::Listed;
 use crate::entries::{Entry, NUMBERS, UNFIT};
 use crate::text::{bytes_of, number, words};
 
-/// Bytes of a Love error reply, and where its N and its code stand.
+/// Bytes of a Love error reply.
 const LOVE_ERROR_LENGTH: usize = 8;
+/// Where its N stands; the code follows.
 const LOVE_ERROR_PLACE: usize = 4;
 
 /// What came up for one entry.

@@ -15,10 +15,13 @@ pub type Line = Vec<u8>;
 pub const ANSWER_ROOM: usize = 38;
 /// The largest room of a call.
 pub const ROOM_MOST: usize = 1024;
-/// Places of the table of the pending change.
+/// Where the pending change has its kind.
 const PENDING_KIND: usize = 0;
+/// Where it has its address.
 const PENDING_ADDRESS: usize = 1;
+/// Where it has its NUM.
 const PENDING_NUM: usize = 2;
+/// Where it has its data.
 const PENDING_DATA: Range<usize> = 3..35;
 /// Rooms around each limit.
 pub const TELLING_ROOMS: [usize; 10] = [0, 1, 37, 38, 39, 292, 293, 294, 1023, ROOM_MOST];

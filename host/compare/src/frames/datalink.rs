@@ -5,10 +5,15 @@ use crate::card::{MEMORY_END, MEMORY_START, WRITABLE_START};
 use crate::rng::Rng;
 use crate::writer::Addresses;
 
+/// The first byte of every frame.
 pub const START: u8 = 0x7E;
+/// Command bits: asks for bytes.
 pub const INTERROGATE: u8 = 0xE0;
+/// Command bits: new bytes.
 pub const CHANGE: u8 = 0xA0;
+/// Command bits: masks and states.
 pub const CHANGE_BITS: u8 = 0xC0;
+/// Command bits: applies the pending change.
 pub const ACKNOWLEDGE: u8 = 0x80;
 /// The command's bits of the second byte; the rest is the I.A.
 pub const COMMAND_FIELD: u8 = 0xE0;

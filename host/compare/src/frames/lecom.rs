@@ -5,9 +5,13 @@ use crate::card::REGISTER_RANGE;
 use crate::rng::Rng;
 use crate::writer::Addresses;
 
+/// Begins the code of a write.
 const STX: u8 = 0x02;
+/// Ends the data of a write.
 const ETX: u8 = 0x03;
+/// Begins every telegram.
 const EOT: u8 = 0x04;
+/// Ends a read.
 const ENQ: u8 = 0x05;
 /// Where a write's code begins: after EOT, two figures and STX.
 const WRITE_CODE: usize = 4;
@@ -16,10 +20,11 @@ const WRITE_CODE: usize = 4;
 pub const ACTIVATE: u8 = 0x67;
 /// The code that copies the operational registers to the saved ones.
 pub const STORE: u8 = 0x68;
-/// The first and last register code.
+/// The last register code; the first is 00h.
 const LAST_REGISTER: i64 = 0x5F;
-/// The codes of the probes.
+/// The first probe's code.
 const FIRST_PROBE: u8 = 0x60;
+/// The last probe's code.
 const LAST_PROBE: u8 = 0x63;
 /// Codes on both sides of each limit.
 const TELLING_CODES: [u8; 14] = [
@@ -108,7 +113,7 @@ impl Dialect for Lecom {
             };
             write(figures, &code, &data)
         };
-        if rng.chance(20) {
+        if rng.chance(25) {
             spoil(rng, &mut frame);
         }
         frame
@@ -226,9 +231,9 @@ fn any_code(rng: &mut Rng) -> Vec<u8> {
 /// Spoils a control character, the BCC or the length.
 fn spoil(rng: &mut Rng, frame: &mut Vec<u8>) {
     let last = frame.len() - 1;
-    match rng.below(7) {
+    match rng.below(9) {
         0 => frame[0] = rng.pick(&[STX, ENQ, 0]),
-        1 => frame[last] ^= 1 << rng.below(8),
+        1 | 7 | 8 => frame[last] ^= 1 << rng.below(8),
         2 => frame[last - 1] = rng.pick(&[STX, ETX, EOT, ENQ]),
         3 => frame[WRITE_CODE - 1] = rng.pick(&[STX, ETX, b'!', b'0']),
         4 => frame.insert(last, rng.pick(&[ETX, b'0', ENQ])),

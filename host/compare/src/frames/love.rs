@@ -5,7 +5,9 @@ use crate::card::LOVE_RANGE;
 use crate::rng::Rng;
 use crate::writer::Addresses;
 
+/// Begins every frame.
 const STX: u8 = 0x02;
+/// Ends every request.
 const ETX: u8 = 0x03;
 /// Filter characters by the address's hundreds in hex.
 const FILTER: &[u8; 4] = b"LOVE";

@@ -5,26 +5,36 @@ use crate::card::{CHANNELS, PARAMETER_RANGES};
 use crate::rng::Rng;
 use crate::writer::Addresses;
 
+/// Reads one channel.
 pub const GET_IO: u8 = 0x46;
+/// Reads the channels of a mask.
 pub const GET_IO_GROUP: u8 = 0x48;
+/// Writes one channel.
 pub const SET_IO: u8 = 0x40;
+/// Writes the channels of a mask.
 pub const SET_IO_GROUP: u8 = 0x42;
+/// Writes a parameter, or sets a channel's defaults.
 pub const SET_PARAM: u8 = 0xA0;
+/// Reads a parameter.
 pub const GET_PARAM: u8 = 0xA2;
 /// Every command that is built.
 pub const COMMANDS: [u8; 6] = [GET_IO, GET_IO_GROUP, SET_IO, SET_IO_GROUP, SET_PARAM, GET_PARAM];
-/// Value types: demand, probe in tenths, probe in hundredths.
+/// Value type: a fan demand.
 pub const DEMAND: u8 = 0x10;
+/// Value type: a probe in tenths.
 pub const TENTHS: u8 = 0x40;
+/// Value type: a probe in hundredths.
 pub const HUNDREDTHS: u8 = 0x41;
-/// Options of SetParam.
+/// Option of SetParam: the channel's defaults.
 pub const DEFAULT: u8 = 0x01;
+/// Option of SetParam: the saved copy too.
 pub const PERSISTENT: u8 = 0x80;
 /// Addresses of a channel's two parameters.
 pub const PARAMETERS: [u16; 2] = [0x1110, 0x1120];
 
-/// Where LEN stands, and the bytes before the data.
+/// Where LEN stands.
 const LEN: usize = 3;
+/// Bytes before the data.
 const HEAD: usize = 4;
 /// The masks of channels: 1 to 0Fh.
 const MASK_MOST: usize = 0x0F;

@@ -12,8 +12,9 @@ use crate::writer::Addresses;
 pub trait Dialect {
     /// The call that takes the dialect's frames.
     const CALL: &'static str;
-    /// Bytes of its shortest and longest frame.
+    /// Bytes of its shortest frame.
     const SHORTEST: usize;
+    /// Bytes of its longest frame.
     const LONGEST: usize;
 
     /// A frame that the order of document 01 refuses at most for the card's state (nothing pending, probe at fault).

@@ -43,6 +43,7 @@ struct Conditions {
     is_misled: bool,
 }
 
+/// Nothing is lost; frames may arrive more than once.
 const LOSSLESS: Conditions = Conditions {
     lost: [0; ROUNDS],
     doubled: 30,
@@ -54,16 +55,19 @@ const LOSSLESS: Conditions = Conditions {
     moved: 0,
     is_misled: false,
 };
+/// Nothing is lost, but there is other traffic.
 const BUSY: Conditions = Conditions {
     cramped: 10,
     busy: 60,
     ..LOSSLESS
 };
+/// Frames and answers are lost, acknowledges above all.
 const LOSSY: Conditions = Conditions {
     lost: [15, 40, 15],
     unheard: 10,
     ..LOSSLESS
 };
+/// Everything happens that the premise of the clauses allows.
 const ROUGH: Conditions = Conditions {
     lost: [10; ROUNDS],
     unheard: 5,
@@ -74,6 +78,7 @@ const ROUGH: Conditions = Conditions {
     moved: 8,
     ..LOSSLESS
 };
+/// The premise is broken: a wrong answer, and seldom someone else's change.
 const MISLED: Conditions = Conditions {
     is_misled: true,
     ..LOSSLESS
@@ -160,6 +165,7 @@ struct Exchange<'w, 'a> {
 }
 
 impl<'w, 'a> Exchange<'w, 'a> {
+    /// An exchange whose request was just made.
     fn new(out: &'w mut Writer<'a>, line: &'w Conditions) -> Self {
         let misled_step = line.is_misled.then(|| out.rng.pick(&[0, 1, 2, 3, 3, 3]));
         Self {
@@ -195,6 +201,7 @@ impl<'w, 'a> Exchange<'w, 'a> {
         }
     }
 
+    /// True in `percent` of a hundred cases.
     fn chance(&mut self, percent: usize) -> bool {
         self.out.rng.chance(percent)
     }

@@ -1,0 +1,72 @@
+// The card's entries for firmware in C: thin, each with the whole contract of the entry below it. include/nakshvilor.h describes them.
+use card::governor::Governor;
+use card::numbers::{ANSWERED, PROBE_FAULT};
+ghost use mathlib.Core.Path.{_≡_};
+ghost use lib.ListN.{length};
+ghost use Rattle.card.specs.Layout.{cardOf};
+ghost use Rattle.card.specs.Reply.{Gave, Did};
+ghost use Rattle.card.specs.Entries.{setCode, restart};
+ghost use Rattle.card.specs.Governor.{governorOf, numberOf};
+ghost use Rattle.datalink.specs.Answer.{datalinkReply};
+ghost use Rattle.image.specs.Entries.{writeImage, readImage};
+ghost use Rattle.firmware.specs.Lent.{degreesIn};
+
+#[no_mangle]
+pub extern "C" fn nk_set_code(words: &[u32], memory: &mut [u8], pending: &[u8], channel: u32, code: u8) -> u8
+    ensures { λ r. ⌜ Did (setCode (cardOf (now (words .entry)) (now (memory .entry)) (now (pending .entry))) channel code) r (now (words .entry)) (now (memory .exit)) (now (pending .entry)) ⌝ }
+{
+    card::entries::set_code(words, memory, pending, channel, code)
+}
+
+#[no_mangle]
+pub extern "C" fn nk_restart(words: &mut [u32], memory: &mut [u8], pending: &mut [u8]) -> u8
+    ensures { λ r. ⌜ Did (restart (cardOf (now (words .entry)) (now (memory .entry)) (now (pending .entry)))) r (now (words .exit)) (now (memory .exit)) (now (pending .exit)) ⌝ }
+{
+    card::entries::restart_card(words, memory, pending)
+}
+
+// The number of a reading; degrees are stored where there are any.
+fn tell(told: Governor, degrees: &mut f32) -> u8
+    ensures { λ r. ⌜ (r ≡ numberOf told) × (now (degrees .exit) ≡ degreesIn told (now (degrees .entry))) ⌝ }
+{
+    match told {
+        Governor::Degrees(d) => {
+            *degrees = d;
+            ANSWERED
+        }
+        Governor::Fault => PROBE_FAULT,
+        Governor::Refused(number) => number,
+    }
+}
+
+#[no_mangle]
+pub extern "C" fn nk_governor(words: &[u32], memory: &[u8], pending: &[u8], channel: u32, degrees: &mut f32) -> u8
+    ensures { λ r. ⌜ (r ≡ numberOf (governorOf (cardOf (now (words .entry)) (now (memory .entry)) (now (pending .entry))) channel)) × (now (degrees .exit) ≡ degreesIn (governorOf (cardOf (now (words .entry)) (now (memory .entry)) (now (pending .entry))) channel) (now (degrees .entry))) ⌝ }
+{
+    tell(card::governor::governor_reading(words, memory, pending, channel), degrees)
+}
+
+#[no_mangle]
+pub extern "C" fn nk_datalink(words: &[u32], memory: &mut [u8], pending: &mut [u8], frame: &[u8], answer: &mut [u8], len: &mut usize) -> u8
+    ensures { λ r. ⌜ Gave (datalinkReply (cardOf (now (words .entry)) (now (memory .entry)) (now (pending .entry))) (length (now (answer .entry))) (now (frame .entry))) (now (answer .entry)) r (now (len .exit)) (now (words .entry)) (now (memory .exit)) (now (pending .exit)) (now (answer .exit)) ⌝ }
+{
+    let given = datalink::datalink(words, memory, pending, frame, answer);
+    *len = given.len;
+    given.number
+}
+
+#[no_mangle]
+pub extern "C" fn nk_write_image(words: &[u32], memory: &[u8], pending: &[u8], image: &mut [u8], len: &mut usize) -> u8
+    ensures { λ r. ⌜ Gave (writeImage (cardOf (now (words .entry)) (now (memory .entry)) (now (pending .entry))) (length (now (image .entry)))) (now (image .entry)) r (now (len .exit)) (now (words .entry)) (now (memory .entry)) (now (pending .entry)) (now (image .exit)) ⌝ }
+{
+    let given = image::write_image(words, memory, pending, image);
+    *len = given.len;
+    given.number
+}
+
+#[no_mangle]
+pub extern "C" fn nk_read_image(words: &mut [u32], memory: &[u8], pending: &[u8], image: &[u8]) -> u8
+    ensures { λ r. ⌜ Did (readImage (cardOf (now (words .entry)) (now (memory .entry)) (now (pending .entry))) (now (image .entry))) r (now (words .exit)) (now (memory .entry)) (now (pending .entry)) ⌝ }
+{
+    image::read_image(words, memory, pending, image)
+}

@@ -1,0 +1,115 @@
+/* Nakshvilor: the proved protocol core of the cooling card.
+ *
+ * Link with libfirmware.a (`rt staticlib firmware` writes target/staticlib/libfirmware.a). The archive needs no C library,
+ * allocates nothing, keeps no state of its own and calls nothing back.
+ *
+ * TABLES. The firmware owns three tables and lends them to every call. Each is a pointer and a count of ELEMENTS. A table
+ * of any other length than below, zero too, gets NK_CARD_UNFIT and is not touched. A null pointer with count 0 is allowed.
+ *
+ * LENDING. What is passed is borrowed for the call alone. Tables, frame and answer buffer may not overlap. One call at a
+ * time may hold a table that is not const; calls on different cards are independent. Bytes of an answer buffer after the
+ * answer are never written.
+ *
+ * REFUSALS. Every entry takes all inputs and returns one of the numbers below. A number of 2 or more changes no table and
+ * writes nothing but the wire bytes of that refusal, whose count is in *len (0 for none).
+ */
+#ifndef NAKSHVILOR_H
+#define NAKSHVILOR_H
+
+#include <stddef.h>
+#include <stdint.h>
+
+#ifdef __cplusplus
+extern "C" {
+#endif
+
+/* Numbers returned (docs/NUMBERS.md has the wire bytes of each). */
+enum {
+    NK_ANSWERED = 0,         /* done; *len answer bytes are to be sent */
+    NK_DONE = 1,             /* done; nothing is to be sent */
+    NK_FOREIGN_ADDRESS = 2,
+    NK_FRAME_FORM = 3,
+    NK_CHECK_CHARACTER = 4,
+    NK_COMMAND_UNKNOWN = 5,
+    NK_RANGE_UNKNOWN = 6,    /* register, channel or range */
+    NK_VALUE_OUTSIDE = 7,    /* value or option */
+    NK_READ_ONLY = 8,
+    NK_PROBE_FAULT = 9,
+    NK_NOTHING_PENDING = 10,
+    NK_BUFFER_SHORT = 11,
+    NK_CARD_UNFIT = 12,
+    NK_IMAGE_LENGTH = 13,
+    NK_IMAGE_PADDING = 14
+};
+
+/* Lengths. */
+#define NK_WORDS 315u        /* words: uint32_t[NK_WORDS] */
+#define NK_MEMORY 4096u      /* memory: uint8_t[NK_MEMORY] */
+#define NK_PENDING 36u       /* pending: uint8_t[NK_PENDING] */
+#define NK_ROOM 38u          /* a dialect's answer buffer has at least this many bytes */
+#define NK_IMAGE 293u        /* the saved image */
+
+/* Places in words. A signed entry is in two's complement: read it as int32_t. */
+#define NK_IA 0u             /* Datalink I.A., 0 to 31 */
+#define NK_LECOM_ADDRESS 1u  /* 11 to 99 without a zero figure */
+#define NK_LOVE_ADDRESS 2u   /* 1 to 3FFh, low two hex figures not 00 */
+#define NK_LOVE 3u           /* SP1, SP2, ALLO, ALHI: signed tenths, -400 to 870 */
+#define NK_DEMANDS 7u        /* four fan demands, 0 to 65535 */
+#define NK_PARAMETERS 11u    /* channel by channel: 1110h (1000 to 60000000), 1120h (0 to 65535) */
+#define NK_KEPT 19u          /* their saved copies, in the same order */
+#define NK_REGISTERS 96u
+#define NK_BUFFER 27u        /* LECOM registers, signed, -999999 to 999999: buffer copy, */
+#define NK_OPERATIONAL 123u  /* operational copy, */
+#define NK_SAVED 219u        /* saved copy */
+
+/* Places in memory: Datalink address 1000h is memory[0]. */
+#define NK_CODES 0u          /* four probe codes; 255 is a failed probe */
+#define NK_WRITABLE 16u      /* the first byte that a Datalink change may name */
+
+/* Places in pending. Zero NK_KIND means that nothing is pending; the rest is then not looked at. */
+#define NK_KIND 0u
+
+/* Sets the code of probe `channel` (0 to 3). NK_DONE, NK_CARD_UNFIT, or NK_RANGE_UNKNOWN for another channel. */
+uint8_t nk_set_code(const uint32_t *words, size_t words_count, uint8_t *memory, size_t memory_count,
+                    const uint8_t *pending, size_t pending_count, uint32_t channel, uint8_t code);
+
+/* Restart: buffer and operational registers become the saved ones, parameters their saved copy, demands 65535, probe codes
+ * 255, nothing pending; the rest stays. NK_DONE or NK_CARD_UNFIT. */
+uint8_t nk_restart(uint32_t *words, size_t words_count, uint8_t *memory, size_t memory_count, uint8_t *pending,
+                   size_t pending_count);
+
+/* The governor's reading of a channel. NK_ANSWERED: *degrees is half the code less 40, exactly. NK_PROBE_FAULT: the probe
+ * has failed; NK_CARD_UNFIT, NK_RANGE_UNKNOWN: refused. In these cases *degrees is not written: there are no degrees. */
+uint8_t nk_governor(const uint32_t *words, size_t words_count, const uint8_t *memory, size_t memory_count,
+                    const uint8_t *pending, size_t pending_count, uint32_t channel, float *degrees);
+
+/* One whole request of a dialect. `frame` is the request as received; the answer is written to the front of `answer`
+ * (at least NK_ROOM bytes, else NK_BUFFER_SHORT) and its length to *len, which is 0 where nothing is to be sent. */
+uint8_t nk_datalink(const uint32_t *words, size_t words_count, uint8_t *memory, size_t memory_count, uint8_t *pending,
+                    size_t pending_count, const uint8_t *frame, size_t frame_count, uint8_t *answer, size_t answer_count,
+                    size_t *len);
+uint8_t nk_lecom(uint32_t *words, size_t words_count, const uint8_t *memory, size_t memory_count, const uint8_t *pending,
+                 size_t pending_count, const uint8_t *frame, size_t frame_count, uint8_t *answer, size_t answer_count,
+                 size_t *len);
+uint8_t nk_love(uint32_t *words, size_t words_count, const uint8_t *memory, size_t memory_count, const uint8_t *pending,
+                size_t pending_count, const uint8_t *frame, size_t frame_count, uint8_t *answer, size_t answer_count,
+                size_t *len);
+uint8_t nk_lucid(uint32_t *words, size_t words_count, const uint8_t *memory, size_t memory_count, const uint8_t *pending,
+                 size_t pending_count, const uint8_t *frame, size_t frame_count, uint8_t *answer, size_t answer_count,
+                 size_t *len);
+
+/* Writes the saved image: NK_ANSWERED with NK_IMAGE bytes at the front of `image`, NK_CARD_UNFIT, or NK_BUFFER_SHORT. */
+uint8_t nk_write_image(const uint32_t *words, size_t words_count, const uint8_t *memory, size_t memory_count,
+                       const uint8_t *pending, size_t pending_count, uint8_t *image, size_t image_count, size_t *len);
+
+/* Reads an image: the addresses, saved registers, saved parameters and Love parameters of the card become the image's.
+ * NK_DONE; NK_CARD_UNFIT for the card as lent, NK_IMAGE_LENGTH, NK_IMAGE_PADDING, or NK_CARD_UNFIT for an entry of the
+ * image outside its range. */
+uint8_t nk_read_image(uint32_t *words, size_t words_count, const uint8_t *memory, size_t memory_count,
+                      const uint8_t *pending, size_t pending_count, const uint8_t *image, size_t image_count);
+
+#ifdef __cplusplus
+}
+#endif
+
+#endif
