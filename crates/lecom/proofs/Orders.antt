@@ -1,21 +1,20 @@
 -- What is known of a frame once its order is, and each order's reply from what was sent. Assumes nothing.
 use Prim.{Unit, tt}
-use Prim.Native.Nat.{ℕ, _+_, _≤_}
-use mathlib.Core.Path.{_≡_, refl, sym, ap, _∙_, subst}
-use mathlib.Core.Bool.{Bool, true, false}
-use mathlib.Core.List.{List, [], _∷_}
+use Prim.Native.Nat.{ℕ, _≤_}
+use mathlib.Core.Path.{_≡_, refl, sym, subst}
+use mathlib.Core.Bool.{Bool, true}
+use mathlib.Core.List.{List}
 use native.Mathlib.Omega.{arith}
 use lib.ListN.{length}
 use Rattle.wire.specs.Choose.{choose}
 use Rattle.wire.proofs.Cases.{by-choice}
-use Rattle.wire.proofs.Buffers.{overlay-none}
 use Rattle.figures.specs.Signed.{parsedOf}
 use Rattle.figures.specs.declared.Parsed.{Parsed}
 use Rattle.figures.specs.declared.Parsed.the-variants.{Value, Wrong}
 use Rattle.card.specs.Numbers.{frameForm, checkCharacter, rangeUnknown, valueOutside, readOnly}
 use Rattle.card.specs.Tables.{registerMost}
 use Rattle.card.specs.Reply.{GaveWords}
-use Rattle.lecom.specs.Frame.{shortest, lengthRight, isWrite, codeEnd, sizeRight, codeNumber, writable, takes, dataOf, valued, ordered, heard, asked}
+use Rattle.lecom.specs.Frame.{shortest, lengthRight, isWrite, codeEnd, sizeRight, codeNumber, takes, dataOf, valued, ordered, heard, asked}
 use Rattle.lecom.specs.Answer.{Answer, quietly, leaving, obeyed, Sent}
 use Rattle.lecom.specs.declared.frame.Order.{Order}
 use Rattle.lecom.specs.declared.frame.Order.the-variants.{Unheard, Refused, Read, Write}

@@ -4,8 +4,8 @@ use mathlib.Core.Path.{_≡_, refl, sym, ap, _∙_, subst}
 use mathlib.Core.Bool.{true, false}
 use mathlib.Core.List.{List, [], _∷_, _++_, append-assoc}
 use native.Mathlib.Omega.{arith}
-use lib.ListN.{length, take, drop, set, length-append, length-take, length-drop}
-use Rattle.wire.specs.Buffer.{put, overlay, part}
+use lib.ListN.{length, set, length-append, length-take, length-drop}
+use Rattle.wire.specs.Buffer.{put, part}
 use Rattle.wire.proofs.Cases.{yes, no}
 use Rattle.wire.proofs.Buffers.{overlay-none, overlay-sets, overlay-set, overlay-put, overlay-rest}
 use Rattle.figures.specs.Signed.{textOf}

@@ -1,13 +1,14 @@
 -- What a LECOM frame asks. Document 01, "LECOM", with source document 001.
 -- Read: EOT, two figures, code, ENQ. Write: EOT, two figures, STX, code, 1 to 12 data characters, ETX, BCC.
 use Prim.Native.Nat.{ℕ, _+_, _-_, _*_, _/_}
-use mathlib.Core.Bool.{Bool, true, _&&_, _||_, not}
+use mathlib.Core.Bool.{Bool, true, _&&_, _||_}
 use mathlib.Core.List.{List, [], _∷_}
 use lib.Bits.{bitXor}
 use lib.Dec.{leb, ltb, eqb}
 use lib.ListN.{length, getD}
 use Rattle.wire.specs.Choose.{choose}
 use Rattle.wire.specs.Buffer.{part}
+use Rattle.wire.specs.Sum.{byteValues}
 use Rattle.figures.specs.Figure.{decimal, upperHex, figureOf, allFigures, pairByte}
 use Rattle.figures.specs.Signed.{parsedOf}
 use Rattle.figures.specs.declared.Parsed.{Parsed}
@@ -65,12 +66,23 @@ standardHex = 2
 abbrev pub extendedHex : ℕ
 extendedHex = 6
 
+-- in an extended code's hex characters the place of the standard code, and of the subcode, "the last two"
+abbrev pub standardPlace : ℕ
+standardPlace = 2
+
+abbrev pub subcodePlace : ℕ
+subcodePlace = 4
+
 -- "1 to 12 data characters"
 abbrev pub dataLeast : ℕ
 dataLeast = 1
 
 abbrev pub dataMost : ℕ
 dataMost = 12
+
+-- how many bytes come after the data: ETX and BCC
+abbrev pub closing : ℕ
+closing = 2
 
 -- "Codes 60h to 63h are the probes .. 67h is ACTIVATE, 68h is STORE"; a code below the first probe's is a register
 abbrev pub firstProbe : ℕ
@@ -107,7 +119,7 @@ collective f = eqb (onesIn f) 0
 -- "Address 00, or the unit's tens figure followed by 0, reaches the unit", and so does its own
 unfoldable pub reaches : ℕ → List ℕ → Bool
 reaches address f =
-    choose (collective f) (eqb (tensIn f) 0 || eqb (tensIn f) (address / 10)) (eqb (10 * tensIn f + onesIn f) address)
+    choose (collective f) (eqb (tensIn f) 0 || eqb (tensIn f) (address / decimal)) (eqb (decimal * tensIn f + onesIn f) address)
 
 -- a frame with STX after its figures is a write, any other a read
 unfoldable pub isWrite : List ℕ → Bool
@@ -135,12 +147,12 @@ codeOf f = part f (codeStart f) (codeEnd f)
 unfoldable pub sizeRight : List ℕ → Bool
 sizeRight f =
     choose (isWrite f)
-    (leb (codeEnd f + dataLeast + 2) (length f) && leb (length f) (codeEnd f + dataMost + 2))
+    (leb (codeEnd f + dataLeast + closing) (length f) && leb (length f) (codeEnd f + dataMost + closing))
     (eqb (length f) (codeEnd f + 1))
 
 -- layout: "ENQ" last in a read; "in a write ETX is the last byte but one"
 unfoldable pub endRight : List ℕ → Bool
-endRight f = choose (isWrite f) (eqb (getD f (length f - 2) 0) etx) (eqb (getD f (length f - 1) 0) enq)
+endRight f = choose (isWrite f) (eqb (getD f (length f - closing) 0) etx) (eqb (getD f (length f - 1) 0) enq)
 
 -- layout: the code's characters are upper-case hex
 unfoldable pub codeRight : List ℕ → Bool
@@ -165,11 +177,11 @@ pairIn f at = pairByte upperHex (getD f at 0) (getD f (at + 1) 0)
 
 -- a code's number: of two hex characters, or of the first four of an extended code's, so that "!00" before a standard code reaches the same
 unfoldable pub codeNumber : List ℕ → ℕ
-codeNumber f = choose (isExtended f) (256 * pairIn f (hexStart f) + pairIn f (hexStart f + 2)) (pairIn f (hexStart f))
+codeNumber f = choose (isExtended f) (byteValues * pairIn f (hexStart f) + pairIn f (hexStart f + standardPlace)) (pairIn f (hexStart f))
 
 -- an extended code's last two characters
 unfoldable pub subcodeRight : List ℕ → Bool
-subcodeRight f = choose (isExtended f) (eqb (pairIn f (hexStart f + 4)) 0) true
+subcodeRight f = choose (isExtended f) (eqb (pairIn f (hexStart f + subcodePlace)) 0) true
 
 -- a number that names a register, a probe, ACTIVATE or STORE
 unfoldable pub codeNamed : ℕ → Bool
@@ -185,7 +197,7 @@ writable code = ltb code firstProbe || leb probesEnd code
 
 -- the data characters
 unfoldable pub dataOf : List ℕ → List ℕ
-dataOf f = part f (codeEnd f) (length f - 2)
+dataOf f = part f (codeEnd f) (length f - closing)
 
 -- "67h and 68h take a data value of 0 or 1"
 unfoldable pub takes : ℕ → ℕ → Bool

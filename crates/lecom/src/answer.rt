@@ -1,10 +1,7 @@
 // What the card does with a LECOM order, and what it sends.
 use crate::form::Lecom;
 use crate::frame;
-use crate::frame::ACTIVATE;
-use crate::frame::FIRST_PROBE;
 use crate::frame::Order;
-use crate::frame::PROBES_END;
 use card::Outcome;
 use card::layout::BUFFER;
 use card::layout::LECOM_ADDRESS;
@@ -142,11 +139,11 @@ fn read(words: &[u32], memory: &[u8], f: &[u8], out: &mut [u8], code: u32) -> Ou
     requires { ⌜ (((shortest ≤ length (now f)) × (codeEnd (now f) ≤ length (now f))) × (roomLeast ≤ length (now out))) × ((length (now words) ≡ wordCount) × (length (now memory) ≡ memorySize)) ⌝ }
     ensures { λ r. ⌜ Sent (readAnswer (now (words .entry)) (now (memory .entry)) (now (f .entry)) code) (now (out .entry)) (r .number) (r .len) (now (out .exit)) ⌝ }
 {
-    if code < FIRST_PROBE {
+    if code < Lecom::FIRST_PROBE {
         return tell(f, out, words[OPERATIONAL + code as usize]);
     }
-    if code < PROBES_END {
-        return read_probe(f, out, memory[(code - FIRST_PROBE) as usize]);
+    if code < Lecom::PROBES_END {
+        return read_probe(f, out, memory[(code - Lecom::FIRST_PROBE) as usize]);
     }
     tell(f, out, 0)
 }
@@ -156,14 +153,14 @@ fn write(words: &mut [u32], code: u32, value: u32)
     requires { ⌜ length (now words) ≡ wordCount ⌝ }
     ensures { λ _. ⌜ now (words .exit) ≡ written (now (words .entry)) code value ⌝ }
 {
-    if code < FIRST_PROBE {
+    if code < Lecom::FIRST_PROBE {
         words[BUFFER + code as usize] = value;
         return;
     }
     if value == 0 {
         return;
     }
-    if code == ACTIVATE {
+    if code == Lecom::ACTIVATE {
         wire::move_words(words, BUFFER, OPERATIONAL, REGISTERS);
         return;
     }

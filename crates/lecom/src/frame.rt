@@ -1,8 +1,6 @@
 // What a LECOM frame asks.
 use crate::form::Lecom;
 use card::fitness::REGISTER_MOST;
-use card::layout::CHANNELS;
-use card::layout::REGISTERS;
 use card::numbers::CHECK_CHARACTER;
 use card::numbers::FOREIGN_ADDRESS;
 use card::numbers::FRAME_FORM;
@@ -18,14 +16,11 @@ ghost use Prim.Native.Nat.{_+_, _≤_};
 ghost use lib.ListN.{length};
 ghost use Rattle.lecom.specs.Frame.{shortest, collective, reaches, isWrite, codeStart, isExtended, hexStart, codeEnd, sizeRight, endRight, codeRight, bccOf, bccRight, pairIn, codeNumber, subcodeRight, codeNamed, codeKnown, writable, takes, valued, ordered, heard, asked};
 
-// Codes: registers come first, then the probes.
-pub const FIRST_PROBE: u32 = REGISTERS as u32;
+// What an address's first figure counts.
+const TEN: u32 = DECIMAL as u32;
 
-pub const PROBES_END: u32 = FIRST_PROBE + CHANNELS as u32;
-
-pub const ACTIVATE: u32 = 0x67;
-
-pub const STORE: u32 = 0x68;
+// How many values a pair of hex characters has.
+const PAIR_VALUES: u32 = 256;
 
 // What a frame asks: nothing, with no byte sent; nothing, and the unit says so; a code's value; or a value for a code.
 pub enum Order {
@@ -63,10 +58,10 @@ fn is_reached(address: u32, f: &[u8]) -> bool
 {
     let tens = figures::figure(f[Lecom::TENS]) as u32;
     if is_collective(f) {
-        return (tens == 0) | (tens == address / 10);
+        return (tens == 0) | (tens == address / TEN);
     }
     let ones = figures::figure(f[Lecom::ONES]) as u32;
-    10 * tens + ones == address
+    TEN * tens + ones == address
 }
 
 pub fn is_write(f: &[u8]) -> bool
@@ -126,7 +121,8 @@ fn size_right(f: &[u8]) -> bool
     let n = f.len();
     let end = code_end(f);
     if is_write(f) {
-        return (end + Lecom::DATA_LEAST + 2 <= n) & (n <= end + Lecom::DATA_MOST + 2);
+        return (end + Lecom::DATA_LEAST + Lecom::CLOSING <= n)
+            & (n <= end + Lecom::DATA_MOST + Lecom::CLOSING);
     }
     n == end + 1
 }
@@ -137,7 +133,7 @@ fn end_right(f: &[u8]) -> bool
 {
     let n = f.len();
     if is_write(f) {
-        return f[n - 2] == Lecom::ETX;
+        return f[n - Lecom::CLOSING] == Lecom::ETX;
     }
     f[n - 1] == Lecom::ENQ
 }
@@ -179,7 +175,7 @@ fn code_number(f: &[u8]) -> u32
     let at = hex_start(f);
     let first = pair_in(f, at);
     if is_extended(f) {
-        return 256 * first + pair_in(f, at + 2);
+        return PAIR_VALUES * first + pair_in(f, at + Lecom::STANDARD);
     }
     first
 }
@@ -189,16 +185,16 @@ fn subcode_right(f: &[u8]) -> bool
     ensures { λ r. ⌜ r ≡ subcodeRight (now (f .entry)) ⌝ }
 {
     if is_extended(f) {
-        return pair_in(f, hex_start(f) + 4) == 0;
+        return pair_in(f, hex_start(f) + Lecom::SUBCODE) == 0;
     }
     true
 }
 
-// Whether a number names a register, a probe, ACTIVATE or STORE.
+// Whether a number names a register, a probe, Lecom::ACTIVATE or Lecom::STORE.
 fn is_named(code: u32) -> bool
     ensures { λ r. ⌜ r ≡ codeNamed code ⌝ }
 {
-    (code < PROBES_END) | ((code == ACTIVATE) | (code == STORE))
+    (code < Lecom::PROBES_END) | ((code == Lecom::ACTIVATE) | (code == Lecom::STORE))
 }
 
 fn code_known(f: &[u8]) -> bool
@@ -214,14 +210,14 @@ fn code_known(f: &[u8]) -> bool
 fn is_writable(code: u32) -> bool
     ensures { λ r. ⌜ r ≡ writable code ⌝ }
 {
-    (code < FIRST_PROBE) | (PROBES_END <= code)
+    (code < Lecom::FIRST_PROBE) | (Lecom::PROBES_END <= code)
 }
 
 // Whether a code takes a value.
 fn is_taken(code: u32, value: u32) -> bool
     ensures { λ r. ⌜ r ≡ takes code value ⌝ }
 {
-    (code < FIRST_PROBE) | (value <= 1)
+    (code < Lecom::FIRST_PROBE) | (value <= 1)
 }
 
 // A write of what the data was read as.
@@ -250,7 +246,7 @@ fn order_in(f: &[u8]) -> Order
         return Order::Refused(READ_ONLY);
     }
     let from = code_end(f);
-    let end = f.len() - 2;
+    let end = f.len() - Lecom::CLOSING;
     write_of(code, figures::parse(&f[from..end], REGISTER_MOST))
 }
 

@@ -4,8 +4,6 @@ use Rattle.wire.proofs.Cases.{yes, no}
 use Rattle.card.proofs.Facts.{and-true}
 use borrow.Author.Tests.{eqb-true}
 use mathlib.Core.Path.{refl}
-use native.Mathlib.Omega.{arith}
-use Rattle.lecom.proofs.Writes.{wrote-one}
 use Rattle.lecom.specs.Answer.{refusalBytes}
 use borrow.Author.Needs.{needs}
 use Rattle.lecom.proofs.answer.put_refusal.Statement.{statement}

@@ -1,5 +1,4 @@
 -- `lecom::frame::is_collective` meets its contract, its definition. Assumes nothing.
-use Rattle.wire.proofs.Cases.{cases}
 use Rattle.lecom.specs.Frame.{collective, onesIn}
 use borrow.Author.Needs.{needs}
 use Rattle.lecom.proofs.frame.is_collective.Statement.{statement}

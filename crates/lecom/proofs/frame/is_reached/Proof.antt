@@ -1,6 +1,5 @@
 -- `lecom::frame::is_reached` meets its contract, test by test. Assumes nothing.
 use Rattle.wire.proofs.Cases.{yes, no, told-true, told-false}
-use Rattle.wire.proofs.Cases.{cases}
 use Rattle.lecom.specs.Frame.{reaches, tensIn, onesIn}
 use borrow.Author.Needs.{needs}
 use Rattle.lecom.proofs.frame.is_reached.Statement.{statement}

@@ -1,7 +1,8 @@
 -- `lecom::frame::order_in` meets its contract, test by test. Assumes nothing.
 use Rattle.wire.proofs.Cases.{yes, no, told-yes, told-no}
 use Rattle.lecom.specs.declared.frame.Order.the-variants.{Read}
-use lib.ListN.{length-take, length-drop}
+use Prim.Native.Nat.{_+_, _≤_}
+use lib.ListN.{length, length-take, length-drop}
 use mathlib.Core.Path.{refl, ap}
 use native.Mathlib.Omega.{arith}
 use Rattle.lecom.proofs.Places.{size-holds, write-holds}
@@ -33,17 +34,21 @@ code-end-requires c κs = search needs
 sub-end : tie.Need-sub-end
 sub-end c = search needs
 
+-- the data stand between code and ETX, and are at most twelve characters
+holds : (c : tie.After-code-end) → (c .code-end .result + 3 ≤ length (c .before .before .before .before .before .before .before .args .f .now)) × (length (c .before .before .before .before .before .before .before .args .f .now) ≤ c .code-end .result + 14)
+holds c = omega (arith, write-holds (c .before .before .before .before .before .before .before .args .f .now) (told-yes (c .before .before .before .before .is-write .ensures) (c .before .before .before .if1 .left)) (c .before .before .before .before .before .before .before .pre .1))
+
 sub-parse : tie.Need-sub-parse
-sub-parse c = omega (arith, write-holds (c .before .before .before .before .before .before .before .args .f .now) (told-yes (c .before .before .before .before .is-write .ensures) (c .before .before .before .if1 .left)) (c .before .before .before .before .before .before .before .pre .1))
+sub-parse c = omega (arith, holds c)
 
 part-parse-start : tie.Need-part-parse-start
-part-parse-start c = omega (arith, write-holds (c .before .before .before .before .before .before .before .args .f .now) (told-yes (c .before .before .before .before .is-write .ensures) (c .before .before .before .if1 .left)) (c .before .before .before .before .before .before .before .pre .1))
+part-parse-start c = omega (arith, holds c)
 
 part-parse-end : tie.Need-part-parse-end
 part-parse-end c = search needs
 
 parse-requires : tie.Need-parse-requires
-parse-requires c κs = simp (length-take, length-drop) (omega (arith, write-holds (c .before .before .before .before .before .before .before .before .args .f .now) (told-yes (c .before .before .before .before .before .is-write .ensures) (c .before .before .before .before .if1 .left)) (c .before .before .before .before .before .before .before .before .pre .1)))
+parse-requires c κs = simp (length-take, length-drop) (omega (arith, holds (c .before)))
 
 write-of-requires : tie.Need-write-of-requires
 write-of-requires c κs = search needs

@@ -1,5 +1,5 @@
 -- `lecom::frame::subcode_right` meets its contract, test by test. Assumes nothing.
-use Rattle.wire.proofs.Cases.{yes, no, told-true, cases}
+use Rattle.wire.proofs.Cases.{yes, told-true, cases}
 use native.Mathlib.Omega.{arith}
 use Rattle.lecom.proofs.Places.{placed, extended-end}
 use Rattle.lecom.specs.Frame.{subcodeRight}
