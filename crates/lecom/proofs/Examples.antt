@@ -11,7 +11,7 @@ use Rattle.figures.specs.Signed.{isNegative, magnitude, withSign, textOf, figur
 use Rattle.card.specs.Layout.{Card, cardOf}
 use Rattle.card.specs.Tables.{inSpan, allIn, inMemory, namesReadOnly, named, numRight, echoable, addressOf, fitPending, fitAddresses, fitParameters, fitWords, fit}
 use Rattle.card.specs.Reply.{shell, roomLeast}
-use Rattle.lecom.specs.Frame.{lengthRight, figuresRight, tensIn, onesIn, collective, reaches, isWrite, codeStart, isExtended, hexStart, codeEnd, codeOf, sizeRight, endRight, codeRight, xorFrom, bccOf, bccRight, pairIn, codeNumber, subcodeRight, codeNamed, codeKnown, writable, dataOf, takes, valued, ordered, heard, asked}
+use Rattle.lecom.specs.Frame.{lengthRight, figuresRight, tensIn, onesIn, collective, reaches, isWrite, codeStart, isExtended, hexStart, codeEnd, codeOf, sizeRight, endRight, codeRight, xorFrom, bccOf, bccRight, pairIn, codeNumber, subcodeRight, codeNamed, codeKnown, writable, writeRight, dataOf, dataRead, takes, valueRight, valueIn, dataRight, orderIn, heard, asked}
 use Rattle.lecom.specs.Answer.{valueBody, valueBytes, doneBy, readAnswer, activated, written, obeyed, addressOf as unitAddress, lecomReply}
 
 -- document 01's card: I.A. 3, LECOM 11, Love 32h, all else as a new card has it
@@ -43,10 +43,10 @@ after card f = lecomReply card roomLeast f .card
 
 -- P6: ACK; register 00 reads as before
 pub p6-ack : (told card p6 ≡ 0 ∷ 0x06 ∷ []) × (told (after card p6) read ≡ told card read)
-unfolding lecomReply shell fit fitWords fitAddresses allIn inSpan fitParameters fitPending echoable numRight inMemory namesReadOnly named addressOf choose asked heard lengthRight figuresRight allFigures figureOf inRange reaches collective tensIn onesIn sizeRight endRight codeRight bccRight bccOf xorFrom codeKnown subcodeRight codeNamed codeNumber pairIn pairByte ordered isWrite codeStart isExtended hexStart codeEnd writable dataOf valued takes parsedOf figuresOf valueOf valueFrom withSign obeyed written doneBy unitAddress readAnswer valueBytes valueBody codeOf textOf isNegative magnitude shortest sizeOf sizeWithin digits charOf activated put
+unfolding lecomReply shell fit fitWords fitAddresses allIn inSpan fitParameters fitPending echoable numRight inMemory namesReadOnly named addressOf choose asked heard lengthRight figuresRight allFigures figureOf inRange reaches collective tensIn onesIn sizeRight endRight codeRight bccRight bccOf xorFrom codeKnown subcodeRight codeNamed codeNumber pairIn pairByte orderIn isWrite codeStart isExtended hexStart codeEnd writable writeRight dataOf dataRead dataRight valueRight valueIn takes parsedOf figuresOf valueOf valueFrom withSign obeyed written doneBy unitAddress readAnswer valueBytes valueBody codeOf textOf isNegative magnitude shortest sizeOf sizeWithin digits charOf activated put
 p6-ack = (refl, refl)
 
 -- P7: ACK; register 00 reads 9873
 pub p7-ack : (told (after card p6) p7 ≡ 0 ∷ 0x06 ∷ []) × (told (after (after card p6) p7) read ≡ 0 ∷ 0x02 ∷ 0x30 ∷ 0x30 ∷ 0x39 ∷ 0x38 ∷ 0x37 ∷ 0x33 ∷ 0x03 ∷ 0x06 ∷ [])
-unfolding lecomReply shell fit fitWords fitAddresses allIn inSpan fitParameters fitPending echoable numRight inMemory namesReadOnly named addressOf choose asked heard lengthRight figuresRight allFigures figureOf inRange reaches collective tensIn onesIn sizeRight endRight codeRight bccRight bccOf xorFrom codeKnown subcodeRight codeNamed codeNumber pairIn pairByte ordered isWrite codeStart isExtended hexStart codeEnd writable dataOf valued takes parsedOf figuresOf valueOf valueFrom withSign obeyed written doneBy unitAddress readAnswer valueBytes valueBody codeOf textOf isNegative magnitude shortest sizeOf sizeWithin digits charOf activated put
+unfolding lecomReply shell fit fitWords fitAddresses allIn inSpan fitParameters fitPending echoable numRight inMemory namesReadOnly named addressOf choose asked heard lengthRight figuresRight allFigures figureOf inRange reaches collective tensIn onesIn sizeRight endRight codeRight bccRight bccOf xorFrom codeKnown subcodeRight codeNamed codeNumber pairIn pairByte orderIn isWrite codeStart isExtended hexStart codeEnd writable writeRight dataOf dataRead dataRight valueRight valueIn takes parsedOf figuresOf valueOf valueFrom withSign obeyed written doneBy unitAddress readAnswer valueBytes valueBody codeOf textOf isNegative magnitude shortest sizeOf sizeWithin digits charOf activated put
 p7-ack = (refl, refl)

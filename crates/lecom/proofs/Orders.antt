@@ -8,13 +8,9 @@ use native.Mathlib.Omega.{arith}
 use lib.ListN.{length}
 use Rattle.wire.specs.Choose.{choose}
 use Rattle.wire.proofs.Cases.{by-choice}
-use Rattle.figures.specs.Signed.{parsedOf}
-use Rattle.figures.specs.declared.Parsed.{Parsed}
-use Rattle.figures.specs.declared.Parsed.the-variants.{Value, Wrong}
 use Rattle.card.specs.Numbers.{frameForm, checkCharacter, rangeUnknown, valueOutside, readOnly}
-use Rattle.card.specs.Tables.{registerMost}
 use Rattle.card.specs.Reply.{GaveWords}
-use Rattle.lecom.specs.Frame.{shortest, lengthRight, isWrite, codeEnd, sizeRight, codeNumber, takes, dataOf, valued, ordered, heard, asked}
+use Rattle.lecom.specs.Frame.{shortest, lengthRight, isWrite, codeEnd, sizeRight, orderIn, heard, asked}
 use Rattle.lecom.specs.Answer.{Answer, quietly, leaving, obeyed, Sent}
 use Rattle.lecom.specs.declared.frame.Order.{Order}
 use Rattle.lecom.specs.declared.frame.Order.the-variants.{Unheard, Refused, Read, Write}
@@ -36,17 +32,9 @@ module _ (f : List ℕ) where
     or-refused : (t : Bool) (o : Order) (number : ℕ) → (number ≡ rangeUnknown → codeEnd f ≤ length f) → (t ≡ true → Held f o) → Held f (choose t o (Refused number))
     or-refused t o number code h = by-choice (Held f) t o (Refused number) h (λ _. (long, code))
 
-    held-valued : (code : ℕ) (p : Parsed) → Held f (valued code p)
-    unfolding valued
-    held-valued code Wrong = (long, λ e. omega arith)
-    held-valued code (Value value) = or-refused (takes code value) _ valueOutside (λ e. omega arith) (λ _. long)
-
-    held-ordered : sizeRight f ≡ true → Held f (ordered f)
-    unfolding ordered
-    held-ordered s =
-        by-choice (Held f) (isWrite f) _ _
-        (λ _. or-refused _ _ readOnly (λ e. omega arith) (λ _. held-valued (codeNumber f) (parsedOf registerMost (dataOf f))))
-        (λ _. (long, omega (arith, size-holds f s)))
+    held-in : sizeRight f ≡ true → Held f (orderIn f)
+    unfolding orderIn
+    held-in s = by-choice (Held f) (isWrite f) _ _ (λ _. long) (λ _. (long, omega (arith, size-holds f s)))
 
     held-heard : Held f (heard f)
     unfolding heard
@@ -56,7 +44,9 @@ module _ (f : List ℕ) where
         (λ _. or-refused _ _ frameForm (λ e. omega arith)
         (λ _. or-refused _ _ checkCharacter (λ e. omega arith)
         (λ _. or-refused _ _ rangeUnknown (λ e. omega (arith, size-holds f s))
-        (λ _. held-ordered s)))))
+        (λ _. or-refused _ _ readOnly (λ e. omega arith)
+        (λ _. or-refused _ _ valueOutside (λ e. omega arith)
+        (λ _. held-in s)))))))
 
   pub held : (address : ℕ) → Held f (asked address f)
   unfolding asked

@@ -1,7 +1,7 @@
 -- What a LECOM frame asks. Document 01, "LECOM", with source document 001.
 -- Read: EOT, two figures, code, ENQ. Write: EOT, two figures, STX, code, 1 to 12 data characters, ETX, BCC.
 use Prim.Native.Nat.{ℕ, _+_, _-_, _*_, _/_}
-use mathlib.Core.Bool.{Bool, true, _&&_, _||_}
+use mathlib.Core.Bool.{Bool, true, false, _&&_, _||_}
 use mathlib.Core.List.{List, [], _∷_}
 use lib.Bits.{bitXor}
 use lib.Dec.{leb, ltb, eqb}
@@ -175,11 +175,11 @@ bccRight f = choose (isWrite f) (eqb (bccOf (part f (codeStart f) (length f - 1)
 unfoldable pub pairIn : List ℕ → ℕ → ℕ
 pairIn f at = pairByte upperHex (getD f at 0) (getD f (at + 1) 0)
 
--- a code's number: of two hex characters, or of the first four of an extended code's, so that "!00" before a standard code reaches the same
+-- a code's number: that of its two hex characters, or of an extended code's first four; so "!00" before a standard code reaches the same register
 unfoldable pub codeNumber : List ℕ → ℕ
 codeNumber f = choose (isExtended f) (byteValues * pairIn f (hexStart f) + pairIn f (hexStart f + standardPlace)) (pairIn f (hexStart f))
 
--- an extended code's last two characters
+-- an extended code's last two characters are 00
 unfoldable pub subcodeRight : List ℕ → Bool
 subcodeRight f = choose (isExtended f) (eqb (pairIn f (hexStart f + subcodePlace)) 0) true
 
@@ -191,17 +191,42 @@ codeNamed code = ltb code probesEnd || (eqb code activate || eqb code store)
 unfoldable pub codeKnown : List ℕ → Bool
 codeKnown f = subcodeRight f && codeNamed (codeNumber f)
 
--- probes are read-only
+-- a probe is read-only
 unfoldable pub writable : ℕ → Bool
 writable code = ltb code firstProbe || leb probesEnd code
 
--- the data characters
+-- "read-only": a write names no probe
+unfoldable pub writeRight : List ℕ → Bool
+writeRight f = choose (isWrite f) (writable (codeNumber f)) true
+
+-- the data characters, and what they are read as: "an optional minus, then at least one figure", −999,999 to 999,999
 unfoldable pub dataOf : List ℕ → List ℕ
 dataOf f = part f (codeEnd f) (length f - closing)
 
--- "67h and 68h take a data value of 0 or 1"
+unfoldable pub dataRead : List ℕ → Parsed
+dataRead f = parsedOf registerMost (dataOf f)
+
+-- "67h and 68h take a data value of 0 or 1"; a register takes every value
 unfoldable pub takes : ℕ → ℕ → Bool
 takes code value = ltb code firstProbe || leb value 1
+
+-- a value that the code takes
+unfoldable pub valueRight : ℕ → Parsed → Bool
+valueRight code Wrong = false
+valueRight code (Value value) = takes code value
+
+-- the value that was read, if one was
+unfoldable pub valueIn : Parsed → ℕ
+valueIn Wrong = 0
+valueIn (Value value) = value
+
+-- "data": a write's data are a value that its code takes
+unfoldable pub dataRight : List ℕ → Bool
+dataRight f = choose (isWrite f) (valueRight (codeNumber f) (dataRead f)) true
+
+-- what a frame that passed asks
+unfoldable pub orderIn : List ℕ → Order
+orderIn f = choose (isWrite f) (Write (codeNumber f) (valueIn (dataRead f))) (Read (codeNumber f))
 
 -- a test, the number that refuses a frame where it fails, and what comes after it: `unheard` with no byte on the wire
 abbrev pub unheard : Bool → ℕ → Order → Order
@@ -210,20 +235,7 @@ unheard test number rest = choose test rest (Unheard number)
 abbrev pub unless : Bool → ℕ → Order → Order
 unless test number rest = choose test rest (Refused number)
 
--- "data (7)": an optional minus, then at least one figure, −999,999 to 999,999; and a value that the code takes
-unfoldable pub valued : ℕ → Parsed → Order
-valued code Wrong = Refused valueOutside
-valued code (Value value) = unless (takes code value) valueOutside (Write code value)
-
--- what a frame with a known code asks: in a write "read-only (8); data (7)"
-unfoldable pub ordered : List ℕ → Order
-ordered f =
-    choose (isWrite f)
-    (unless (writable (codeNumber f)) readOnly
-    (valued (codeNumber f) (parsedOf registerMost (dataOf f))))
-    (Read (codeNumber f))
-
--- "layout (3); BCC (4); code (6)"
+-- what a frame that reached the unit asks: "layout (3); BCC (4); code (6); read-only (8); data (7)". Fault (9) is found in reading the probe
 unfoldable pub heard : List ℕ → Order
 heard f =
     unless (sizeRight f) frameForm
@@ -231,9 +243,11 @@ heard f =
     (unless (codeRight f) frameForm
     (unless (bccRight f) checkCharacter
     (unless (codeKnown f) rangeUnknown
-    (ordered f)))))
+    (unless (writeRight f) readOnly
+    (unless (dataRight f) valueOutside
+    (orderIn f)))))))
 
--- what a frame asks of the unit at an address: "EOT and figures (3, silent); address (2)", then the above; fault (9) is found in reading the probe
+-- what a frame asks of the unit at an address: "EOT and figures (3, silent); address (2)", and then the above
 unfoldable pub asked : ℕ → List ℕ → Order
 asked address f =
     unheard (lengthRight (length f)) frameForm

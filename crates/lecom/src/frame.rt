@@ -14,7 +14,8 @@ ghost use mathlib.Core.Path.{_≡_};
 ghost use mathlib.Core.Bool.{true};
 ghost use Prim.Native.Nat.{_+_, _≤_};
 ghost use lib.ListN.{length};
-ghost use Rattle.lecom.specs.Frame.{shortest, collective, reaches, isWrite, codeStart, isExtended, hexStart, codeEnd, sizeRight, endRight, codeRight, bccOf, bccRight, pairIn, codeNumber, subcodeRight, codeNamed, codeKnown, writable, takes, valued, ordered, heard, asked};
+ghost use Rattle.card.specs.Numbers.{valueOutside, readOnly};
+ghost use Rattle.lecom.specs.Frame.{shortest, collective, reaches, isWrite, codeStart, isExtended, hexStart, codeEnd, sizeRight, endRight, codeRight, bccOf, bccRight, pairIn, codeNumber, subcodeRight, codeNamed, codeKnown, writable, writeRight, takes, valueRight, valueIn, dataRight, orderIn, unless, heard, asked};
 
 // What an address's first figure counts.
 const TEN: u32 = DECIMAL as u32;
@@ -220,9 +221,9 @@ fn is_taken(code: u32, value: u32) -> bool
     (code < Lecom::FIRST_PROBE) | (value <= 1)
 }
 
-// A write of what the data was read as.
+// A write of what its data were read as.
 fn write_of(code: u32, parsed: Parsed) -> Order
-    ensures { λ r. ⌜ r ≡ valued code parsed ⌝ }
+    ensures { λ r. ⌜ r ≡ unless (valueRight code parsed) valueOutside (Order.Write code (valueIn parsed)) ⌝ }
 {
     let Parsed::Value(value) = parsed else {
         return Order::Refused(VALUE_OUTSIDE);
@@ -233,10 +234,10 @@ fn write_of(code: u32, parsed: Parsed) -> Order
     Order::Write(code, value)
 }
 
-// What a frame with a known code asks.
+// Read-only, data and the order itself, for a frame with a known code.
 fn order_in(f: &[u8]) -> Order
     requires { ⌜ (shortest ≤ length (now f)) × (sizeRight (now f) ≡ true) ⌝ }
-    ensures { λ r. ⌜ r ≡ ordered (now (f .entry)) ⌝ }
+    ensures { λ r. ⌜ r ≡ unless (writeRight (now (f .entry))) readOnly (unless (dataRight (now (f .entry))) valueOutside (orderIn (now (f .entry)))) ⌝ }
 {
     let code = code_number(f);
     if !is_write(f) {

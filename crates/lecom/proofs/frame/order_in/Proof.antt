@@ -6,7 +6,8 @@ use lib.ListN.{length, length-take, length-drop}
 use mathlib.Core.Path.{refl, ap}
 use native.Mathlib.Omega.{arith}
 use Rattle.lecom.proofs.Places.{size-holds, write-holds}
-use Rattle.lecom.specs.Frame.{ordered, dataOf}
+use Rattle.wire.specs.Choose.{choose}
+use Rattle.lecom.specs.Frame.{writeRight, dataOf, dataRead, dataRight, orderIn}
 use borrow.Author.Needs.{needs}
 use Rattle.lecom.proofs.frame.order_in.Statement.{statement}
 use Rattle.lecom.proofs.frame.order_in.Tie as tie
@@ -18,15 +19,15 @@ is-write-requires : tie.Need-is-write-requires
 is-write-requires c κs = search needs
 
 returns : tie.Need-returns
-unfolding ordered
-returns c = no _ _ _ _ (told-no (c .before .is-write .ensures) (c .if1 .taken)) (ap Read (c .before .before .code-number .ensures))
+unfolding writeRight dataRight orderIn choose
+returns c = simp (told-no (c .before .is-write .ensures) (c .if1 .taken)) (ap Read (c .before .before .code-number .ensures))
 
 is-writable-requires : tie.Need-is-writable-requires
 is-writable-requires c κs = search needs
 
 returns-2 : tie.Need-returns-2
-unfolding ordered
-returns-2 c = yes _ _ _ _ (told-yes (c .before .before .before .is-write .ensures) (c .before .before .if1 .left)) (no _ _ _ _ (rw (← (c .before .before .before .before .code-number .ensures)) (told-no (c .before .is-writable .ensures) (c .if2 .taken))) refl)
+unfolding writeRight choose
+returns-2 c = simp (told-yes (c .before .before .before .is-write .ensures) (c .before .before .if1 .left), ← (c .before .before .before .before .code-number .ensures), told-no (c .before .is-writable .ensures) (c .if2 .taken))
 
 code-end-requires : tie.Need-code-end-requires
 code-end-requires c κs = search needs
@@ -54,8 +55,8 @@ write-of-requires : tie.Need-write-of-requires
 write-of-requires c κs = search needs
 
 returns-3 : tie.Need-returns-3
-unfolding ordered dataOf
-returns-3 c = yes _ _ _ _ (told-yes (c .before .before .before .before .before .before .before .is-write .ensures) (c .before .before .before .before .before .before .if1 .left)) (rw (← (c .before .before .before .before .before .before .before .before .code-number .ensures), ← (c .before .before .before .code-end .ensures)) (yes _ _ _ _ (told-yes (c .before .before .before .before .before .is-writable .ensures) (c .before .before .before .before .if2 .left)) (rw (← (c .before .parse .ensures)) (c .write-of .ensures))))
+unfolding writeRight dataRight orderIn dataRead dataOf choose
+returns-3 c = simp (told-yes (c .before .before .before .before .before .before .before .is-write .ensures) (c .before .before .before .before .before .before .if1 .left), ← (c .before .before .before .before .before .before .before .before .code-number .ensures), ← (c .before .before .before .code-end .ensures), told-yes (c .before .before .before .before .before .is-writable .ensures) (c .before .before .before .before .if2 .left), ← (c .before .parse .ensures)) (c .write-of .ensures)
 
 pub order-in-spec : {M : Type 1} → statement M
 order-in-spec =
