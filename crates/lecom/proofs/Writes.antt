@@ -70,10 +70,6 @@ wrote-value f out value at k bcc out₁ out₂ w n p e h =
     let y : bcc ≡ bccOf (valueBody f value) = e ∙ ap bccOf (bcc-over f out value (at + k + 1) _ x) in
     rw y (wrote-set (stx ∷ valueBody f value) out x (bccOf (valueBody f value)) h)
 
--- the same bytes under another name
-pub wrote-as : {out : List ℕ} {len : ℕ} {out′ : List ℕ} (a b : List ℕ) → a ≡ b → Wrote a out len out′ → Wrote b out len out′
-wrote-as {out} {len} {out′} a b e = subst (λ (x : List ℕ). Wrote x out len out′) e
-
 -- nothing was written
 pub wrote-none : (out : List ℕ) → Wrote [] out 0 out
 wrote-none out = record { measured = refl; written = sym (overlay-none out) }

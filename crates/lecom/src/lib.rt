@@ -1,7 +1,7 @@
 // The LECOM dialect. Document 01, "LECOM"; source document 001.
-pub mod answer;
+mod answer;
 pub mod form;
-pub mod frame;
+mod frame;
 
 use card::Outcome;
 use card::ROOM_LEAST;

@@ -1,9 +1,9 @@
 -- `lecom::frame::order_in` meets its contract, test by test. Assumes nothing.
-use Rattle.wire.proofs.Cases.{yes, no, told-yes, told-no}
+use Rattle.wire.proofs.Cases.{told-yes, told-no}
 use Rattle.lecom.specs.declared.frame.Order.the-variants.{Read}
 use Prim.Native.Nat.{_+_, _≤_}
 use lib.ListN.{length, length-take, length-drop}
-use mathlib.Core.Path.{refl, ap}
+use mathlib.Core.Path.{ap}
 use native.Mathlib.Omega.{arith}
 use Rattle.lecom.proofs.Places.{size-holds, write-holds}
 use Rattle.wire.specs.Choose.{choose}
