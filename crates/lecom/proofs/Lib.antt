@@ -1,0 +1,5 @@
+pub mod Places
+pub mod Writes
+pub mod Orders
+pub mod Laws
+pub mod Examples

@@ -1,0 +1,97 @@
+-- An answer that is written piece by piece, and sent unless the address is collective. Assumes nothing.
+use Prim.Native.Nat.{ℕ, _+_, _-_, _≤_, _<_}
+use mathlib.Core.Path.{_≡_, refl, sym, ap, _∙_, subst}
+use mathlib.Core.Bool.{true, false}
+use mathlib.Core.List.{List, [], _∷_, _++_, append-assoc}
+use native.Mathlib.Omega.{arith}
+use lib.ListN.{length, set, length-append, length-take, length-drop}
+use Rattle.wire.specs.Buffer.{put, part}
+use Rattle.wire.proofs.Cases.{yes, no}
+use Rattle.wire.proofs.Buffers.{overlay-none, overlay-sets, overlay-set, overlay-put, overlay-rest}
+use Rattle.figures.specs.Signed.{textOf}
+use Rattle.card.specs.Numbers.{answered, done}
+use Rattle.card.specs.Reply.{Wrote}
+use Rattle.lecom.specs.Frame.{stx, etx, collective, codeStart, codeEnd, codeOf, bccOf}
+use Rattle.lecom.specs.Answer.{Answer, valueBody, valueBytes, refusalBytes, doneBy, refusedBy, Sent}
+use Rattle.lecom.proofs.Places.{placed}
+
+module _ (bytes out : List ℕ) {len : ℕ} {out′ : List ℕ} (w : Wrote bytes out len out′) where
+  -- a byte written after the answer so far
+  pub wrote-set : (x : ℕ) → len < length out → Wrote (bytes ++ (x ∷ [])) out (len + 1) (set out′ len x)
+  wrote-set x h =
+      let l : length bytes < length out = omega (arith, w .measured) in
+      record {
+        measured = simp length-append (omega (arith, w .measured));
+        written = rw (w .written, w .measured) (overlay-set bytes out x l);
+      }
+
+  -- a list written after the answer so far
+  pub wrote-put : (d : List ℕ) → Wrote (bytes ++ d) out (len + length d) (put out′ len d)
+  wrote-put d =
+      record {
+        measured = simp length-append (omega (arith, w .measured));
+        written = rw (w .written, w .measured) (overlay-put bytes d out);
+      }
+
+-- the first byte
+pub wrote-one : (x : ℕ) (out : List ℕ) → 0 < length out → Wrote (x ∷ []) out 1 (set out 0 x)
+wrote-one x out h = record { measured = refl; written = overlay-sets (x ∷ []) out h }
+
+-- a code is as long as its places are apart, and has at most seven characters
+pub code-length : (f : List ℕ) → codeEnd f ≤ length f → length (codeOf f) ≡ codeEnd f - codeStart f
+unfolding codeOf
+code-length f h = simp (length-take, length-drop) (omega (arith, placed f))
+
+pub code-most : (f : List ℕ) → codeEnd f ≤ length f → length (codeOf f) ≤ 7
+code-most f h = omega (arith, placed f, code-length f h)
+
+-- STX, and the code copied after it
+pub wrote-code : (f out : List ℕ) (at end : ℕ) (out′ : List ℕ) → at ≡ codeStart f → end ≡ codeEnd f → codeEnd f ≤ length f → 0 < length out → out′ ≡ put (set out 0 stx) 1 (part f at end)
+    → Wrote (stx ∷ codeOf f) out (1 + (end - at)) out′
+unfolding codeOf
+wrote-code f out at end out′ a e h l p =
+    let n : 1 + (end - at) ≡ 1 + length (codeOf f) = omega (arith, code-length f h) in
+    let q : part f at end ≡ codeOf f = rw (a, e) in
+    rw (n, p, q) (wrote-put (stx ∷ []) out (wrote-one stx out l) (codeOf f))
+
+-- what stands after STX is what the BCC goes over
+bcc-over : (f out : List ℕ) (value last : ℕ) (out′ : List ℕ) → Wrote (stx ∷ valueBody f value) out last out′ → part out′ 1 last ≡ valueBody f value
+bcc-over f out value last out′ w =
+    let e : last - 1 ≡ length (valueBody f value) = omega (arith, w .measured) in
+    rw (e, w .written) (overlay-rest stx (valueBody f value) out)
+
+-- a value's k characters, ETX and the BCC written after STX and code
+pub wrote-value : (f out : List ℕ) (value at k bcc : ℕ) (out₁ out₂ : List ℕ) → Wrote (stx ∷ codeOf f) out at out₁ → k ≡ length (textOf value) → out₂ ≡ put out₁ at (textOf value)
+    → bcc ≡ bccOf (part (set out₂ (at + k) etx) 1 (at + k + 1)) → at + k + 1 < length out → Wrote (valueBytes f value) out (at + k + 1 + 1) (set (set out₂ (at + k) etx) (at + k + 1) bcc)
+unfolding valueBytes valueBody
+wrote-value f out value at k bcc out₁ out₂ w n p e h =
+    let v : Wrote ((stx ∷ codeOf f) ++ textOf value) out (at + k) out₂ = rw (n, p) (wrote-put (stx ∷ codeOf f) out w (textOf value)) in
+    let x : Wrote (stx ∷ valueBody f value) out (at + k + 1) (set out₂ (at + k) etx) = rw append-assoc at (wrote-set ((stx ∷ codeOf f) ++ textOf value) out v etx (omega arith)) in
+    let y : bcc ≡ bccOf (valueBody f value) = e ∙ ap bccOf (bcc-over f out value (at + k + 1) _ x) in
+    rw y (wrote-set (stx ∷ valueBody f value) out x (bccOf (valueBody f value)) h)
+
+-- nothing was written
+pub wrote-none : (out : List ℕ) → Wrote [] out 0 out
+wrote-none out = record { measured = refl; written = sym (overlay-none out) }
+
+pub sent-as : {out : List ℕ} {number len : ℕ} {out′ : List ℕ} (a b : Answer) → a ≡ b → Sent a out number len out′ → Sent b out number len out′
+sent-as {out} {number} {len} {out′} a b e = subst (λ (x : Answer). Sent x out number len out′) e
+
+-- a frame to a collective address: no byte
+pub done-quiet : (f bytes out : List ℕ) → collective f ≡ true → Sent (doneBy f bytes) out done 0 out
+unfolding doneBy
+done-quiet f bytes out h = sent-as _ _ (yes _ _ _ _ h refl) (record { numbered = refl; wrote = wrote-none out })
+
+pub refused-quiet : (f : List ℕ) (number : ℕ) (out : List ℕ) → collective f ≡ true → Sent (refusedBy f number) out number 0 out
+unfolding refusedBy
+refused-quiet f number out h = sent-as _ _ (yes _ _ _ _ h refl) (record { numbered = refl; wrote = wrote-none out })
+
+-- a frame to the unit's own: the bytes
+pub done-sent : (f bytes out : List ℕ) {len : ℕ} {out′ : List ℕ} → collective f ≡ false → Wrote bytes out len out′ → Sent (doneBy f bytes) out answered len out′
+unfolding doneBy
+done-sent f bytes out h w = sent-as _ _ (no _ _ _ _ h refl) (record { numbered = refl; wrote = w })
+
+pub refused-sent : (f : List ℕ) (number : ℕ) (out : List ℕ) {len : ℕ} {out′ : List ℕ} → collective f ≡ false → Wrote (refusalBytes f number) out len out′
+    → Sent (refusedBy f number) out number len out′
+unfolding refusedBy
+refused-sent f number out h w = sent-as _ _ (no _ _ _ _ h refl) (record { numbered = refl; wrote = w })

@@ -1,0 +1,41 @@
+-- `lecom::frame::end_right` meets its contract, test by test. Assumes nothing.
+use Rattle.wire.proofs.Cases.{cases}
+use Rattle.lecom.specs.Frame.{endRight}
+use borrow.Author.Needs.{needs}
+use Rattle.lecom.proofs.frame.end_right.Statement.{statement}
+use Rattle.lecom.proofs.frame.end_right.Tie as tie
+
+is-write-requires : tie.Need-is-write-requires
+is-write-requires c κs = search needs
+
+sub-result : tie.Need-sub-result
+sub-result c = search needs
+
+shared-slice-read-result : tie.Need-shared-slice-read-result
+shared-slice-read-result c = search needs
+
+returns : tie.Need-returns
+unfolding endRight
+returns c = search cases
+
+sub-result-2 : tie.Need-sub-result-2
+sub-result-2 c = search needs
+
+shared-slice-read-result-2 : tie.Need-shared-slice-read-result-2
+shared-slice-read-result-2 c = search needs
+
+returns-2 : tie.Need-returns-2
+unfolding endRight
+returns-2 c = search cases
+
+pub end-right-spec : {M : Type 1} → statement M
+end-right-spec =
+    tie.close
+    (tie.spec
+    is-write-requires
+    sub-result
+    shared-slice-read-result
+    returns
+    sub-result-2
+    shared-slice-read-result-2
+    returns-2)

@@ -1,0 +1,77 @@
+-- `lecom::frame::order_in` meets its contract, test by test. Assumes nothing.
+use Rattle.wire.proofs.Cases.{told-yes, told-no}
+use Rattle.lecom.specs.declared.frame.Order.the-variants.{Read}
+use Prim.Native.Nat.{_+_, _≤_}
+use lib.ListN.{length, length-take, length-drop}
+use mathlib.Core.Path.{ap}
+use native.Mathlib.Omega.{arith}
+use Rattle.lecom.proofs.Places.{size-holds, write-holds}
+use Rattle.wire.specs.Choose.{choose}
+use Rattle.lecom.specs.Frame.{writeRight, dataOf, dataRead, dataRight, orderIn}
+use borrow.Author.Needs.{needs}
+use Rattle.lecom.proofs.frame.order_in.Statement.{statement}
+use Rattle.lecom.proofs.frame.order_in.Tie as tie
+
+code-number-requires : tie.Need-code-number-requires
+code-number-requires c κs = omega (arith, size-holds (c .before .args .f .now) (c .before .pre .1))
+
+is-write-requires : tie.Need-is-write-requires
+is-write-requires c κs = search needs
+
+returns : tie.Need-returns
+unfolding writeRight dataRight orderIn choose
+returns c = simp (told-no (c .before .is-write .ensures) (c .if1 .taken)) (ap Read (c .before .before .code-number .ensures))
+
+is-writable-requires : tie.Need-is-writable-requires
+is-writable-requires c κs = search needs
+
+returns-2 : tie.Need-returns-2
+unfolding writeRight choose
+returns-2 c = simp (told-yes (c .before .before .before .is-write .ensures) (c .before .before .if1 .left), ← (c .before .before .before .before .code-number .ensures), told-no (c .before .is-writable .ensures) (c .if2 .taken))
+
+code-end-requires : tie.Need-code-end-requires
+code-end-requires c κs = search needs
+
+sub-end : tie.Need-sub-end
+sub-end c = search needs
+
+-- the data stand between code and ETX, and are at most twelve characters
+holds : (c : tie.After-code-end) → (c .code-end .result + 3 ≤ length (c .before .before .before .before .before .before .before .args .f .now)) × (length (c .before .before .before .before .before .before .before .args .f .now) ≤ c .code-end .result + 14)
+holds c = omega (arith, write-holds (c .before .before .before .before .before .before .before .args .f .now) (told-yes (c .before .before .before .before .is-write .ensures) (c .before .before .before .if1 .left)) (c .before .before .before .before .before .before .before .pre .1))
+
+sub-parse : tie.Need-sub-parse
+sub-parse c = omega (arith, holds c)
+
+part-parse-start : tie.Need-part-parse-start
+part-parse-start c = omega (arith, holds c)
+
+part-parse-end : tie.Need-part-parse-end
+part-parse-end c = search needs
+
+parse-requires : tie.Need-parse-requires
+parse-requires c κs = simp (length-take, length-drop) (omega (arith, holds (c .before)))
+
+write-of-requires : tie.Need-write-of-requires
+write-of-requires c κs = search needs
+
+returns-3 : tie.Need-returns-3
+unfolding writeRight dataRight orderIn dataRead dataOf choose
+returns-3 c = simp (told-yes (c .before .before .before .before .before .before .before .is-write .ensures) (c .before .before .before .before .before .before .if1 .left), ← (c .before .before .before .before .before .before .before .before .code-number .ensures), ← (c .before .before .before .code-end .ensures), told-yes (c .before .before .before .before .before .is-writable .ensures) (c .before .before .before .before .if2 .left), ← (c .before .parse .ensures)) (c .write-of .ensures)
+
+pub order-in-spec : {M : Type 1} → statement M
+order-in-spec =
+    tie.close
+    (tie.spec
+    code-number-requires
+    is-write-requires
+    returns
+    is-writable-requires
+    returns-2
+    code-end-requires
+    sub-end
+    sub-parse
+    part-parse-start
+    part-parse-end
+    parse-requires
+    write-of-requires
+    returns-3)

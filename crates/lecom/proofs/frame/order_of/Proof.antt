@@ -1,0 +1,71 @@
+-- `lecom::frame::order_of` meets its contract, test by test. Assumes nothing.
+use Rattle.wire.proofs.Cases.{cases, told-yes}
+use lib.ListN.{length}
+use native.Mathlib.Omega.{arith}
+use Rattle.lecom.proofs.Places.{length-facts}
+use Rattle.lecom.specs.Frame.{asked, figuresRight}
+use borrow.Author.Needs.{needs}
+use Rattle.lecom.proofs.frame.order_of.Statement.{statement}
+use Rattle.lecom.proofs.frame.order_of.Tie as tie
+
+fits-requires : tie.Need-fits-requires
+fits-requires c κs = search needs
+
+returns : tie.Need-returns
+unfolding asked figuresRight
+returns c = search cases
+
+shared-slice-read-if2 : tie.Need-shared-slice-read-if2
+shared-slice-read-if2 c = omega (arith, length-facts (length (c .before .before .before .before .args .f .now)) (told-yes (c .before .before .fits2 .ensures) (c .before .if1 .left)))
+
+returns-2 : tie.Need-returns-2
+unfolding asked figuresRight
+returns-2 c = search cases
+
+sub-all-figures : tie.Need-sub-all-figures
+sub-all-figures c = search needs
+
+part-all-figures-start : tie.Need-part-all-figures-start
+part-all-figures-start c = search needs
+
+part-all-figures-end : tie.Need-part-all-figures-end
+part-all-figures-end c = omega (arith, length-facts (length (c .before .before .before .before .before .args .f .now)) (told-yes (c .before .before .before .fits2 .ensures) (c .before .before .if1 .left)))
+
+all-figures-requires : tie.Need-all-figures-requires
+all-figures-requires c κs = search needs
+
+returns-3 : tie.Need-returns-3
+unfolding asked figuresRight
+returns-3 c = search cases
+
+is-reached-requires : tie.Need-is-reached-requires
+is-reached-requires c κs = omega (arith, length-facts (length (c .before .before .before .before .before .before .before .before .args .f .now)) (told-yes (c .before .before .before .before .before .before .fits2 .ensures) (c .before .before .before .before .before .if1 .left)))
+
+returns-4 : tie.Need-returns-4
+unfolding asked figuresRight
+returns-4 c = search cases
+
+heard-order-requires : tie.Need-heard-order-requires
+heard-order-requires c κs = omega (arith, length-facts (length (c .before .before .before .before .before .before .before .before .before .before .args .f .now)) (told-yes (c .before .before .before .before .before .before .before .before .fits2 .ensures) (c .before .before .before .before .before .before .before .if1 .left)))
+
+returns-5 : tie.Need-returns-5
+unfolding asked figuresRight
+returns-5 c = search cases
+
+pub order-of-spec : {M : Type 1} → statement M
+order-of-spec =
+    tie.close
+    (tie.spec
+    fits-requires
+    returns
+    shared-slice-read-if2
+    returns-2
+    sub-all-figures
+    part-all-figures-start
+    part-all-figures-end
+    all-figures-requires
+    returns-3
+    is-reached-requires
+    returns-4
+    heard-order-requires
+    returns-5)

@@ -1,0 +1,104 @@
+-- What the card does with a LECOM order, and what it sends. Document 01, "LECOM".
+use Prim.Native.Nat.{ℕ, _+_, _-_}
+use mathlib.Core.Path.{_≡_}
+use mathlib.Core.Bool.{_&&_, not}
+use mathlib.Core.List.{List, [], _∷_, _++_}
+use lib.Dec.{ltb, eqb}
+use lib.ListN.{getD, set}
+use Rattle.wire.specs.Choose.{choose}
+use Rattle.wire.specs.Buffer.{part, put}
+use Rattle.figures.specs.Signed.{textOf}
+use Rattle.card.specs.Numbers.{answered, done, rangeUnknown, probeFault}
+use Rattle.card.specs.Layout.{Card, lecomAddressAt, bufferAt, operationalAt, savedAt}
+use Rattle.card.specs.Probe.{readingOf}
+use Rattle.card.specs.declared.probe.Reading.{Reading}
+use Rattle.card.specs.declared.probe.Reading.the-variants.{Temperature, Fault}
+use Rattle.card.specs.Reply.{Reply, WordsReply, Wrote, onWords, shell, roomLeast}
+use Rattle.lecom.specs.Frame.{stx, etx, eot, ack, nak, firstProbe, probesEnd, activate, collective, isWrite, codeOf, bccOf, asked}
+use Rattle.lecom.specs.declared.frame.Order.{Order}
+use Rattle.lecom.specs.declared.frame.Order.the-variants.{Unheard, Refused, Read, Write}
+
+-- what a read's BCC goes over: code, shortest decimal, ETX
+unfoldable pub valueBody : List ℕ → ℕ → List ℕ
+valueBody f value = codeOf f ++ (textOf value ++ (etx ∷ []))
+
+-- "Read answer: STX, code, shortest decimal, ETX, BCC"
+unfoldable pub valueBytes : List ℕ → ℕ → List ℕ
+valueBytes f value = (stx ∷ valueBody f value) ++ (bccOf (valueBody f value) ∷ [])
+
+-- "an unknown code in a read: STX, the code as received, EOT"
+unfoldable pub unknownBytes : List ℕ → List ℕ
+unknownBytes f = (stx ∷ codeOf f) ++ (eot ∷ [])
+
+-- "From layout on the wire answer is NAK, except an unknown code in a read"
+unfoldable pub refusalBytes : List ℕ → ℕ → List ℕ
+refusalBytes f number = choose (eqb number rangeUnknown && not (isWrite f)) (unknownBytes f) (nak ∷ [])
+
+-- an answer: the number returned and the wire bytes
+pub record Answer : Type 0 where
+  pub number : ℕ
+  pub bytes : List ℕ
+
+-- a number with no wire bytes
+abbrev pub quietly : ℕ → Answer
+quietly number = record { number = number; bytes = [] }
+
+-- "Address 00, or the unit's tens figure followed by 0, reaches the unit; then no bytes are sent, NAK included, and 0 becomes 1":
+-- the answer of a frame that is done, and of one that is refused
+unfoldable pub doneBy : List ℕ → List ℕ → Answer
+doneBy f bytes = choose (collective f) (quietly done) (record { number = answered; bytes = bytes })
+
+unfoldable pub refusedBy : List ℕ → ℕ → Answer
+refusedBy f number = choose (collective f) (quietly number) (record { number = number; bytes = refusalBytes f number })
+
+-- what a probe's reading is answered by: a temperature in tenths, or "fault (9)"
+unfoldable pub probeAnswer : List ℕ → Reading → Answer
+probeAnswer f (Temperature tenths) = doneBy f (valueBytes f (tenths .0))
+probeAnswer f Fault = refusedBy f probeFault
+
+-- what a read is answered by: a register by its operational copy, a probe by its reading, ACTIVATE and STORE by 0
+unfoldable pub readAnswer : List ℕ → List ℕ → List ℕ → ℕ → Answer
+readAnswer words memory f code =
+    choose (ltb code firstProbe) (doneBy f (valueBytes f (getD words (operationalAt + code) 0)))
+    (choose (ltb code probesEnd) (probeAnswer f (readingOf (getD memory (code - firstProbe) 0)))
+    (doneBy f (valueBytes f 0)))
+
+-- ACTIVATE "copies buffer to operational", STORE "operational to saved"
+unfoldable pub activated : List ℕ → List ℕ
+activated words = put words operationalAt (part words bufferAt operationalAt)
+
+unfoldable pub stored : List ℕ → List ℕ
+stored words = put words savedAt (part words operationalAt savedAt)
+
+-- what a write makes of the words: "A write goes to the buffer"; ACTIVATE and STORE act on a value of 1
+unfoldable pub written : List ℕ → ℕ → ℕ → List ℕ
+written words code value =
+    choose (ltb code firstProbe) (set words (bufferAt + code) value)
+    (choose (eqb value 0) words
+    (choose (eqb code activate) (activated words)
+    (stored words)))
+
+-- a reply that leaves these words
+abbrev pub leaving : List ℕ → Answer → WordsReply
+leaving words answer = record { number = answer .number; bytes = answer .bytes; words = words }
+
+-- what the card does with each order
+unfoldable pub obeyed : List ℕ → List ℕ → List ℕ → Order → WordsReply
+obeyed words memory f (Unheard number) = leaving words (quietly number)
+obeyed words memory f (Refused number) = leaving words (refusedBy f number)
+obeyed words memory f (Read code) = leaving words (readAnswer words memory f code)
+obeyed words memory f (Write code value) = leaving (written words code value) (doneBy f (ack ∷ []))
+
+-- the unit's address
+unfoldable pub addressOf : List ℕ → ℕ
+addressOf words = getD words lecomAddressAt 0
+
+-- the LECOM entry: 12, 11, then the order
+unfoldable pub lecomReply : Card → ℕ → List ℕ → Reply
+lecomReply card room f =
+    shell roomLeast card room (onWords card (obeyed (card .words) (card .memory) f (asked (addressOf (card .words)) f)))
+
+-- an answer was sent: the number, the answer's length and the whole answer buffer
+pub record Sent (answer : Answer) (out : List ℕ) (number len : ℕ) (out′ : List ℕ) : Type 0 where
+  pub numbered : number ≡ answer .number
+  pub wrote : Wrote (answer .bytes) out len out′
