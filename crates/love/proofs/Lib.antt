@@ -1,0 +1,3 @@
+pub mod Frames
+pub mod Answers
+pub mod Laws
