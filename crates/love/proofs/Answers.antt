@@ -1,5 +1,5 @@
 -- Laws of specs/Answer.antt: a reply as it is written, part after part. Assumes nothing.
-use mathlib.Core.Path.{_≡_, refl, sym, ap, _∙_}
+use mathlib.Core.Path.{_≡_, refl, ap, _∙_}
 use mathlib.Core.Bool.{true, false}
 use mathlib.Core.List.{List, [], _∷_, _++_}
 use Prim.Native.Nat.{ℕ, _+_, _-_, _%_, _≤_}
@@ -16,9 +16,9 @@ use Rattle.figures.specs.Signed.{isNegative, magnitude}
 use Rattle.card.specs.declared.probe.Tenths.{Tenths}
 use Rattle.card.specs.declared.probe.Reading.{Reading}
 use Rattle.card.specs.declared.probe.Reading.the-variants.{Temperature, Fault}
-use Rattle.card.specs.Reply.{Wrote, roomLeast}
-use Rattle.love.specs.Form.{stx, ack, addressAt, fieldAt, tail, hundred, filterOf}
-use Rattle.love.specs.Answer.{unitOf, errorMark, errorReply, normalReply, figures, fineChar, faultChar, negativeChar, statusField, probeField}
+use Rattle.card.specs.Reply.{WordsReply, Wrote, GaveWords, roomLeast}
+use Rattle.love.specs.Form.{stx, ack, filterAt, addressAt, fieldAt, tail, hundred, pair, filterOf}
+use Rattle.love.specs.Answer.{unitOf, errorMark, errorReply, normalReply, figureCount, fineChar, faultChar, negativeChar, statusField, probeField}
 
 module _ (address : ℕ) (out : List ℕ) where
   -- STX, filter and address stored
@@ -52,33 +52,33 @@ module _ (address : ℕ) (out : List ℕ) where
 
   -- sign and figures put after them
   pub value-put : (sign number : ℕ)
-      → put (put (overlay (stx ∷ unitOf address) out) fieldAt (pairOf sign)) (fieldAt + 2) (digits figures number)
-      ≡ overlay (stx ∷ (unitOf address ++ (pairOf sign ++ digits figures number))) out
+      → put (put (overlay (stx ∷ unitOf address) out) fieldAt (pairOf sign)) (fieldAt + pair) (digits figureCount number)
+      ≡ overlay (stx ∷ (unitOf address ++ (pairOf sign ++ digits figureCount number))) out
   unfolding pairOf
   value-put sign number =
-      ap (λ (l : List ℕ). put l (fieldAt + 2) (digits figures number)) (field-put (pairOf sign))
-      ∙ field-more (pairOf sign) (digits figures number) (fieldAt + 2) refl
+      ap (λ (l : List ℕ). put l (fieldAt + pair) (digits figureCount number)) (field-put (pairOf sign))
+      ∙ field-more (pairOf sign) (digits figureCount number) (fieldAt + pair) refl
 
   -- status characters stored, and figures put after them
   pub status-put : (first fourth number : ℕ) → roomLeast ≤ length out
-      → put (sets (overlay (stx ∷ unitOf address) out) fieldAt (first ∷ zeroChar ∷ zeroChar ∷ fourth ∷ [])) (fieldAt + 4) (digits figures number)
+      → put (sets (overlay (stx ∷ unitOf address) out) fieldAt (first ∷ zeroChar ∷ zeroChar ∷ fourth ∷ [])) (fieldAt + 4) (digits figureCount number)
       ≡ overlay (stx ∷ (unitOf address ++ statusField first fourth number)) out
   unfolding statusField unitOf pairOf
   status-put first fourth number h =
       let status = first ∷ zeroChar ∷ zeroChar ∷ fourth ∷ [] in
       let l : length (overlay (stx ∷ unitOf address) out) ≡ length out = length-overlay (stx ∷ unitOf address) out (omega arith) in
-      ap (λ (l : List ℕ). put l (fieldAt + 4) (digits figures number)) (put-sets status (overlay (stx ∷ unitOf address) out) fieldAt (omega arith) ∙ field-put status)
-      ∙ field-more status (digits figures number) (fieldAt + 4) refl
+      ap (λ (l : List ℕ). put l (fieldAt + 4) (digits figureCount number)) (put-sets status (overlay (stx ∷ unitOf address) out) fieldAt (omega arith) ∙ field-put status)
+      ∙ field-more status (digits figureCount number) (fieldAt + 4) refl
 
   -- checksum and ACK put after data
   pub wrote-normal : (field : List ℕ) (end len : ℕ) (before last : List ℕ) → end ≡ fieldAt + length field → before ≡ overlay (stx ∷ (unitOf address ++ field)) out
-      → (len ≡ end + tail) × (last ≡ put before end (pairOf (sumOf (part before 1 end)) ++ (ack ∷ []))) → Wrote (normalReply address field) out len last
+      → (len ≡ end + tail) × (last ≡ put before end (pairOf (sumOf (part before filterAt end)) ++ (ack ∷ []))) → Wrote (normalReply address field) out len last
   unfolding normalReply unitOf pairOf
   wrote-normal field end len before last e w p =
       let body = unitOf address ++ field in
       let n : end ≡ length (stx ∷ body) = omega arith in
       let m : end - 1 ≡ length body = omega arith in
-      let s : part before 1 end ≡ body = rw (w, m) (overlay-rest stx body out) in
+      let s : part before filterAt end ≡ body = rw (w, m) (overlay-rest stx body out) in
       let t = pairOf (sumOf body) ++ (ack ∷ []) in
       record {
         measured = simp length-append (omega (arith, p .0));
@@ -98,3 +98,7 @@ module _ (reading : Reading) where
   pub status-positive : (tenths : Tenths) → reading ≡ Temperature tenths → isNegative (tenths .0) ≡ false → statusField fineChar zeroChar (magnitude (tenths .0)) ≡ probeField reading
   unfolding probeField choose
   status-positive tenths e h = rw (e, h)
+
+-- a reply of which the bytes were written
+pub gave-wrote : (reply : WordsReply) (out : List ℕ) {len : ℕ} {words out′ : List ℕ} → words ≡ reply .words → Wrote (reply .bytes) out len out′ → GaveWords reply out (reply .number) len words out′
+gave-wrote reply out e w = record { numbered = refl; measured = w .measured; written = w .written; worded = e }

@@ -1,19 +1,18 @@
 -- What is known of a frame that was judged: its length, and what an order names. Assumes nothing.
 use mathlib.Core.Path.{_≡_, sym, subst}
-use mathlib.Core.Bool.{Bool, true, false}
+use mathlib.Core.Bool.{Bool, true}
 use mathlib.Core.List.{List}
 use Prim.{Unit, tt}
 use Prim.Native.Nat.{ℕ, _≤_, _<_}
 use borrow.Author.Tests.{leb-true, ltb-true}
-use lib.Dec.{leb, ltb, eqb}
-use lib.ListN.{length}
+use lib.Dec.{leb, eqb}
 use Rattle.wire.specs.Choose.{choose}
 use Rattle.wire.proofs.Cases.{by-choice}
 use Rattle.card.specs.Layout.{loveCount}
 use Rattle.card.specs.Tables.{inSpan, loveLeast, loveHighest}
 use Rattle.card.proofs.Facts.{and-true}
 use Rattle.love.specs.Form.{shortest, longest, lengthRight}
-use Rattle.love.specs.Frame.{numberIn, orderWrite, orderBy, orderIn, orderHere, asked}
+use Rattle.love.specs.Frame.{orderWrite, orderBy, orderIn, orderHere, asked}
 use Rattle.love.specs.declared.frame.Order.{Order}
 use Rattle.love.specs.declared.frame.Order.the-variants.{Silent, Refused, Probe, Read, Write}
 

@@ -45,13 +45,16 @@ positive = 0x00
 abbrev pub negative : ℕ
 negative = 0x01
 
+unfoldable pub signOf : ℕ → ℕ
+signOf word = choose (isNegative word) negative positive
+
 -- how many figures a number has in a reply
-abbrev pub figures : ℕ
-figures = 4
+abbrev pub figureCount : ℕ
+figureCount = 4
 
 -- "sign 00 or 01 and four figures for a read"
 unfoldable pub valueField : ℕ → List ℕ
-valueField word = pairOf (choose (isNegative word) negative positive) ++ digits figures (magnitude word)
+valueField word = pairOf (signOf word) ++ digits figureCount (magnitude word)
 
 -- ASCII C, D and 2: the first character of the data for 00, without and with a fault, and the fourth of a negative number
 abbrev pub fineChar : ℕ
@@ -65,7 +68,7 @@ negativeChar = 0x32
 
 -- the data for 00: the first character, 0, 0, the fourth, and four figures
 unfoldable pub statusField : ℕ → ℕ → ℕ → List ℕ
-statusField first fourth number = first ∷ zeroChar ∷ zeroChar ∷ fourth ∷ digits figures number
+statusField first fourth number = first ∷ zeroChar ∷ zeroChar ∷ fourth ∷ digits figureCount number
 
 -- "For 00, probe 0: C (D at fault), 0, 0, 0 (2 if negative), four figures (0000 at fault)."
 unfoldable pub probeField : Reading → List ℕ

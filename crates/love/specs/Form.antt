@@ -36,7 +36,7 @@ addressAt = 2
 abbrev pub fieldAt : ℕ
 fieldAt = 4
 
--- how many bytes stand after the data: two checksum figures and ETX
+-- how many bytes stand after the data: two checksum figures and the last byte
 abbrev pub tail : ℕ
 tail = 3
 
@@ -44,7 +44,11 @@ tail = 3
 abbrev pub hundred : ℕ
 hundred = 0x100
 
--- the four letters; E is 45h
+-- how many figures a byte is
+abbrev pub pair : ℕ
+pair = 2
+
+-- "the four letters LOVE. The source gives E as 43h; ASCII decides, 45h"
 abbrev pub letters : List ℕ
 letters = 0x4C ∷ 0x4F ∷ 0x56 ∷ 0x45 ∷ []
 

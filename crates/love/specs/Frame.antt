@@ -46,27 +46,32 @@ unless test number code rest = choose test rest (Refused number code)
 abbrev pub fieldOf : List ℕ → List ℕ
 fieldOf f = part f fieldAt (length f - tail)
 
--- the address that a frame's two figures are
-abbrev pub unitOf : List ℕ → ℕ
-unitOf f = pairByte upperHex (getD f addressAt 0) (getD f (addressAt + 1) 0)
+-- the byte that two characters are, both of them figures below limit. "In data a to f mean A to F": there the limit is `hex`
+abbrev pub byteAt : ℕ → List ℕ → ℕ → ℕ
+byteAt limit s i = pairByte limit (getD s i 0) (getD s (i + 1) 0)
 
 -- filter and address are the unit's
 unfoldable pub forUnit : ℕ → List ℕ → Bool
-forUnit address f = eqb (getD f filterAt 0) (filterOf address) && eqb (unitOf f) (address % hundred)
+forUnit address f = eqb (getD f filterAt 0) (filterOf address) && eqb (byteAt upperHex f addressAt) (address % hundred)
 
--- the checksum that a frame's two figures are, which are upper-case
-abbrev pub checksumOf : List ℕ → ℕ
-checksumOf f = pairByte upperHex (getD f (length f - tail) 0) (getD f (length f - tail + 1) 0)
-
--- "A host checksum adds address and data characters"
+-- "A host checksum adds address and data characters. .. The host's two checksum figures are upper-case, else 4."
 unfoldable pub checksumRight : List ℕ → Bool
-checksumRight f = eqb (checksumOf f) (sumOf (part f addressAt (length f - tail)))
+checksumRight f = eqb (byteAt upperHex f (length f - tail)) (sumOf (part f addressAt (length f - tail)))
 
--- the byte that two data characters are: "In data a to f mean A to F"
-abbrev pub byteAt : List ℕ → ℕ → ℕ
-byteAt field i = pairByte hex (getD field i 0) (getD field (i + 1) 0)
+-- where a command's two halves stand in the data, and a write's four figures and sign
+abbrev pub commandAt : ℕ
+commandAt = 0
 
--- the first two data characters of the commands: 00, 01.. and 02..
+abbrev pub parameterAt : ℕ
+parameterAt = 2
+
+abbrev pub valueAt : ℕ
+valueAt = 4
+
+abbrev pub signAt : ℕ
+signAt = 8
+
+-- the first half: 00, 01.. and 02..
 abbrev pub statusCommand : ℕ
 statusCommand = 0x00
 
@@ -76,13 +81,26 @@ readCommand = 0x01
 abbrev pub writeCommand : ℕ
 writeCommand = 0x02
 
--- the next two: ..00 SP1, ..02 SP2, ..04 ALLO, ..05 ALHI; the place among Love's parameters, or `loveCount` for none
+-- the second half: ..00, ..02, ..04 and ..05
+abbrev pub sp1 : ℕ
+sp1 = 0x00
+
+abbrev pub sp2 : ℕ
+sp2 = 0x02
+
+abbrev pub allo : ℕ
+allo = 0x04
+
+abbrev pub alhi : ℕ
+alhi = 0x05
+
+-- the parameter that a second half names: its place among Love's four, or `loveCount` for none
 unfoldable pub parameterOf : ℕ → ℕ
 parameterOf low =
-    choose (eqb low 0x00) 0
-    (choose (eqb low 0x02) 1
-    (choose (eqb low 0x04) 2
-    (choose (eqb low 0x05) 3
+    choose (eqb low sp1) 0
+    (choose (eqb low sp2) 1
+    (choose (eqb low allo) 2
+    (choose (eqb low alhi) 3
     loveCount)))
 
 -- data lengths: the least and the most, that of 00, the least of any other command, and those of a read and of a write
@@ -104,13 +122,7 @@ readLength = 4
 abbrev pub writeLength : ℕ
 writeLength = 10
 
--- where a write's four figures and its sign stand in the data
-abbrev pub valueAt : ℕ
-valueAt = 4
-
-abbrev pub signAt : ℕ
-signAt = 8
-
+-- the signs of a write
 abbrev pub plusSign : ℕ
 plusSign = 0x00
 
@@ -119,11 +131,11 @@ minusSign = 0xFF
 
 -- a write's sign is 00 or FF
 unfoldable pub signRight : List ℕ → Bool
-signRight field = eqb (byteAt field signAt) plusSign || eqb (byteAt field signAt) minusSign
+signRight field = eqb (byteAt hex field signAt) plusSign || eqb (byteAt hex field signAt) minusSign
 
 -- the number that a write's data holds, as a word; minus zero is zero
 unfoldable pub numberIn : List ℕ → ℕ
-numberIn field = withSign (eqb (byteAt field signAt) minusSign) (valueOf (part field valueAt signAt))
+numberIn field = withSign (eqb (byteAt hex field signAt) minusSign) (valueOf (part field valueAt signAt))
 
 -- "Write: four decimal figures, then sign 00 or FF; else 7, code 05. Value outside: 7, code 06."
 unfoldable pub orderWrite : ℕ → List ℕ → Order
@@ -149,11 +161,11 @@ unfoldable pub orderIn : List ℕ → Order
 orderIn field =
     unless (leb fieldLeast (length field)) frameForm fieldError
     (unless (leb (length field) fieldMost) frameForm fieldError
-    (choose (eqb (byteAt field 0) statusCommand)
+    (choose (eqb (byteAt hex field commandAt) statusCommand)
     (unless (eqb (length field) statusLength) frameForm fieldError
     Probe)
     (unless (leb commandLength (length field)) frameForm fieldError
-    (orderBy (byteAt field 0) (parameterOf (byteAt field 2)) field))))
+    (orderBy (byteAt hex field commandAt) (parameterOf (byteAt hex field parameterAt)) field))))
 
 -- "filter and address (2); checksum (4, code 02); data characters outside 0-9, A-F, a-f (3, code 04); then, d being the data length:"
 unfoldable pub orderHere : ℕ → List ℕ → Order

@@ -1,6 +1,7 @@
 // What the card answers a Love frame. Document 01, "Love", last paragraph.
 use crate::form::HUNDRED;
 use crate::form::Love;
+use crate::form::PAIR;
 use crate::frame;
 use crate::frame::Order;
 use card::Outcome;
@@ -11,20 +12,18 @@ use card::probe::Reading;
 use card::probe::read_code;
 ghost use mathlib.Core.Path.{_≡_};
 ghost use mathlib.Core.List.{[], _∷_, _++_};
-ghost use Prim.Native.Nat.{_≤_, _+_};
-ghost use lib.ListN.{length};
+ghost use Prim.Native.Nat.{_≤_, _<_, _+_};
+ghost use lib.ListN.{length, set};
 ghost use Rattle.wire.specs.Buffer.{put, part, overlay};
-ghost use Rattle.wire.specs.Choose.{choose};
 ghost use Rattle.wire.specs.Sum.{sumOf};
 ghost use Rattle.figures.specs.Figure.{pairOf};
-ghost use Rattle.figures.specs.Signed.{isNegative};
-ghost use Rattle.card.specs.Layout.{wordCount, memorySize};
+ghost use Rattle.card.specs.Layout.{loveAt, loveCount, wordCount, memorySize};
 ghost use Rattle.card.specs.Tables.{loveMost};
 ghost use Rattle.card.specs.Probe.{readingOf};
 ghost use Rattle.card.specs.Reply.{Wrote, GaveWords, roomLeast};
-ghost use Rattle.love.specs.Form.{stx, ack};
+ghost use Rattle.love.specs.Form.{stx, ack, filterAt, tail};
 ghost use Rattle.love.specs.Frame.{asked};
-ghost use Rattle.love.specs.Answer.{unitOf, errorReply, normalReply, writtenField, valueField, statusField, probeField, addressOf, obeyed, negative, positive};
+ghost use Rattle.love.specs.Answer.{unitOf, errorReply, normalReply, writtenField, signOf, valueField, statusField, probeField, addressOf, obeyed};
 
 // The mark of an error reply.
 const ERROR: u8 = b'N';
@@ -40,7 +39,10 @@ const NEGATIVE: u8 = 0x01;
 // How many figures a number has in a reply.
 const FIGURES: usize = 4;
 
-// The data for 00: its first character without and with a fault, and its fourth of a number that is negative or not.
+// The data for 00: how many characters stand before its figures; the first without and with a fault; the fourth of a negative
+// number; and any other.
+const STATUS: usize = 4;
+
 const FINE: u8 = b'C';
 
 const FAULT: u8 = b'D';
@@ -61,13 +63,13 @@ fn put_unit(out: &mut [u8], address: u32)
 
 // Writes what ends a normal reply whose data ends before index end: checksum and ACK.
 fn put_end(out: &mut [u8], end: usize) -> usize
-    requires { ⌜ (1 ≤ end) × (end + 3 ≤ length (now out)) ⌝ }
-    ensures { λ r. ⌜ (r ≡ end + 3) × (now (out .exit) ≡ put (now (out .entry)) end (pairOf (sumOf (part (now (out .entry)) 1 end)) ++ (ack ∷ []))) ⌝ }
+    requires { ⌜ (filterAt ≤ end) × (end + tail ≤ length (now out)) ⌝ }
+    ensures { λ r. ⌜ (r ≡ end + tail) × (now (out .exit) ≡ put (now (out .entry)) end (pairOf (sumOf (part (now (out .entry)) filterAt end)) ++ (ack ∷ []))) ⌝ }
 {
     let sum = wire::sum(&out[Love::FILTER..end]);
     figures::put_pair(out, end, sum);
-    out[end + 2] = Love::ACK;
-    end + 3
+    out[end + PAIR] = Love::ACK;
+    end + Love::TAIL
 }
 
 // Writes an error reply.
@@ -78,8 +80,9 @@ fn put_error(out: &mut [u8], address: u32, code: u8) -> usize
     put_unit(out, address);
     out[Love::DATA] = ERROR;
     figures::put_pair(out, Love::DATA + 1, code);
-    out[Love::DATA + 3] = Love::ACK;
-    Love::DATA + 4
+    let end = Love::DATA + 1 + PAIR;
+    out[end] = Love::ACK;
+    end + 1
 }
 
 // Writes the reply to a write.
@@ -89,12 +92,12 @@ fn put_written(out: &mut [u8], address: u32) -> usize
 {
     put_unit(out, address);
     figures::put_pair(out, Love::DATA, WRITTEN);
-    put_end(out, Love::DATA + 2)
+    put_end(out, Love::DATA + PAIR)
 }
 
 // The sign of a word in the reply to a read.
 fn sign_of(word: u32) -> u8
-    ensures { λ r. ⌜ r ≡ choose (isNegative word) negative positive ⌝ }
+    ensures { λ r. ⌜ r ≡ signOf word ⌝ }
 {
     if figures::is_negative(word) {
         return NEGATIVE;
@@ -109,8 +112,8 @@ fn put_value(out: &mut [u8], address: u32, word: u32) -> usize
 {
     put_unit(out, address);
     figures::put_pair(out, Love::DATA, sign_of(word));
-    figures::put_digits(out, Love::DATA + 2, FIGURES, figures::magnitude(word));
-    put_end(out, Love::DATA + 2 + FIGURES)
+    figures::put_digits(out, Love::DATA + PAIR, FIGURES, figures::magnitude(word));
+    put_end(out, Love::DATA + PAIR + FIGURES)
 }
 
 // Writes the reply to 00.
@@ -123,8 +126,8 @@ fn put_status(out: &mut [u8], address: u32, first: u8, fourth: u8, number: u32) 
     out[Love::DATA + 1] = ZERO;
     out[Love::DATA + 2] = ZERO;
     out[Love::DATA + 3] = fourth;
-    figures::put_digits(out, Love::DATA + 4, FIGURES, number);
-    put_end(out, Love::DATA + 4 + FIGURES)
+    figures::put_digits(out, Love::DATA + STATUS, FIGURES, number);
+    put_end(out, Love::DATA + STATUS + FIGURES)
 }
 
 // Answers 00 by a probe's code: the temperature is taken out of the reading, or the fault is answered.
@@ -141,6 +144,14 @@ fn put_probe(out: &mut [u8], address: u32, code: u8) -> usize
         return put_status(out, address, FINE, BELOW_ZERO, number);
     }
     put_status(out, address, FINE, ZERO, number)
+}
+
+// Stores a parameter.
+fn store(words: &mut [u32], k: usize, word: u32)
+    requires { ⌜ (length (now words) ≡ wordCount) × (k < loveCount) ⌝ }
+    ensures { λ _. ⌜ now (words .exit) ≡ set (now (words .entry)) (loveAt + k) word ⌝ }
+{
+    words[LOVE + k] = word;
 }
 
 // Carries out what a frame asks on the words of a fit card.
@@ -171,7 +182,7 @@ pub fn obey(words: &mut [u32], memory: &[u8], f: &[u8], out: &mut [u8]) -> Outco
             }
         }
         Order::Write(k, word) => {
-            words[LOVE + k] = word;
+            store(words, k, word);
             let len = put_written(out, address);
             Outcome {
                 number: ANSWERED,

@@ -7,6 +7,9 @@ ghost use Rattle.love.specs.Form.{lengthRight, filterOf};
 // How many addresses share a filter character.
 pub const HUNDRED: u32 = 0x100;
 
+// How many figures a byte is.
+pub const PAIR: usize = 2;
+
 pub struct Love {}
 
 impl Love {
@@ -20,7 +23,7 @@ impl Love {
     pub const ETX: u8 = 0x03;
 
     pub const ACK: u8 = 0x06;
-    // Where filter, address and data stand; and how many bytes stand after the data.
+    // Where filter, address and data stand; and how many bytes stand after the data: a checksum and the last byte.
     pub const FILTER: usize = 1;
 
     pub const ADDRESS: usize = 2;

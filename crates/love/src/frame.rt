@@ -14,7 +14,6 @@ use figures::DECIMAL;
 use figures::HEX;
 use figures::UPPER_HEX;
 use figures::all_figures;
-use figures::pair_byte;
 ghost use mathlib.Core.Path.{_≡_};
 ghost use mathlib.Core.Bool.{true};
 ghost use Prim.Native.Nat.{_≤_, _<_, _+_};
@@ -36,12 +35,35 @@ const FIELD_ERROR: u8 = 0x05;
 
 const OUT_OF_RANGE: u8 = 0x06;
 
-// The first two data characters of the commands: 00, 01.. and 02..
+// Where a command's two halves stand in the data, and a write's four figures and sign.
+const COMMAND: usize = 0;
+
+const PARAMETER: usize = 2;
+
+const VALUE: usize = 4;
+
+const SIGN: usize = 8;
+
+// The first half: 00, 01.. and 02..
 const STATUS: u32 = 0x00;
 
 const READ: u32 = 0x01;
 
 const WRITE: u32 = 0x02;
+
+// The second half: ..00, ..02, ..04 and ..05.
+const SP1: u32 = 0x00;
+
+const SP2: u32 = 0x02;
+
+const ALLO: u32 = 0x04;
+
+const ALHI: u32 = 0x05;
+
+// The signs of a write.
+const PLUS: u32 = 0x00;
+
+const MINUS: u32 = 0xFF;
 
 // Data lengths: the least and the most, that of 00, the least of any other command, and those of a read and of a write.
 const FIELD_LEAST: usize = 2;
@@ -56,15 +78,7 @@ const READ_LENGTH: usize = 4;
 
 const WRITE_LENGTH: usize = 10;
 
-// Where a write's four figures and its sign stand in the data.
-const VALUE: usize = 4;
-
-const SIGN: usize = 8;
-
-const PLUS: u32 = 0x00;
-
-const MINUS: u32 = 0xFF;
-
+// What a frame asks.
 pub enum Order {
     // Refused with a number, and no bytes are sent.
     Silent(u8),
@@ -78,13 +92,21 @@ pub enum Order {
     Write(usize, u32),
 }
 
+// The byte that two characters are, both of them figures below limit.
+fn byte_at(s: &[u8], i: usize, limit: u8) -> u32
+    requires { ⌜ i + 1 < length (now s) ⌝ }
+    ensures { λ r. ⌜ r ≡ byteAt limit (now (s .entry)) i ⌝ }
+{
+    figures::pair_byte(s[i], s[i + 1], limit)
+}
+
 // Whether filter and address are the unit's.
 fn is_for(address: u32, f: &[u8]) -> bool
     requires { ⌜ (address ≤ loveMost) × (shortest ≤ length (now f)) ⌝ }
     ensures { λ r. ⌜ r ≡ forUnit address (now (f .entry)) ⌝ }
 {
     let filter = Love::filter(address);
-    let unit = pair_byte(f[Love::ADDRESS], f[Love::ADDRESS + 1], UPPER_HEX);
+    let unit = byte_at(f, Love::ADDRESS, UPPER_HEX);
     (f[Love::FILTER] == filter) & (unit == address % HUNDRED)
 }
 
@@ -95,31 +117,23 @@ fn checksum_right(f: &[u8]) -> bool
 {
     let end = f.len() - Love::TAIL;
     let sum = wire::sum(&f[Love::ADDRESS..end]);
-    pair_byte(f[end], f[end + 1], UPPER_HEX) == sum as u32
-}
-
-// The byte that two data characters are.
-fn byte_at(field: &[u8], i: usize) -> u32
-    requires { ⌜ i + 1 < length (now field) ⌝ }
-    ensures { λ r. ⌜ r ≡ byteAt (now (field .entry)) i ⌝ }
-{
-    pair_byte(field[i], field[i + 1], HEX)
+    byte_at(f, end, UPPER_HEX) == sum as u32
 }
 
 // The parameter that a command names: its place among Love's four, or LOVE_COUNT for none.
 fn parameter(low: u32) -> usize
     ensures { λ r. ⌜ r ≡ parameterOf low ⌝ }
 {
-    if low == 0x00 {
+    if low == SP1 {
         return 0;
     }
-    if low == 0x02 {
+    if low == SP2 {
         return 1;
     }
-    if low == 0x04 {
+    if low == ALLO {
         return 2;
     }
-    if low == 0x05 {
+    if low == ALHI {
         return 3;
     }
     LOVE_COUNT
@@ -130,7 +144,7 @@ fn sign_right(field: &[u8]) -> bool
     requires { ⌜ length (now field) ≡ writeLength ⌝ }
     ensures { λ r. ⌜ r ≡ signRight (now (field .entry)) ⌝ }
 {
-    let sign = byte_at(field, SIGN);
+    let sign = byte_at(field, SIGN, HEX);
     (sign == PLUS) | (sign == MINUS)
 }
 
@@ -140,10 +154,11 @@ fn number_in(field: &[u8]) -> u32
     ensures { λ r. ⌜ r ≡ numberIn (now (field .entry)) ⌝ }
 {
     let value = figures::value(&field[VALUE..SIGN]);
-    let sign = byte_at(field, SIGN);
+    let sign = byte_at(field, SIGN, HEX);
     figures::with_sign(sign == MINUS, value as u32)
 }
 
+// A write of parameter k: its figures, its sign, its range.
 fn order_write(k: usize, field: &[u8]) -> Order
     requires { ⌜ length (now field) ≡ writeLength ⌝ }
     ensures { λ r. ⌜ r ≡ orderWrite k (now (field .entry)) ⌝ }
@@ -161,6 +176,7 @@ fn order_write(k: usize, field: &[u8]) -> Order
     Order::Write(k, number)
 }
 
+// The command by its first half, and the parameter that its second half names.
 fn order_by(command: u32, k: usize, field: &[u8]) -> Order
     ensures { λ r. ⌜ r ≡ orderBy command k (now (field .entry)) ⌝ }
 {
@@ -182,6 +198,7 @@ fn order_by(command: u32, k: usize, field: &[u8]) -> Order
     order_write(k, field)
 }
 
+// The data: its length, and 00 or another command.
 fn order_in(field: &[u8]) -> Order
     ensures { λ r. ⌜ r ≡ orderIn (now (field .entry)) ⌝ }
 {
@@ -192,7 +209,7 @@ fn order_in(field: &[u8]) -> Order
     if FIELD_MOST < d {
         return Order::Refused(FRAME_FORM, FIELD_ERROR);
     }
-    let command = byte_at(field, 0);
+    let command = byte_at(field, COMMAND, HEX);
     if command == STATUS {
         if d != STATUS_LENGTH {
             return Order::Refused(FRAME_FORM, FIELD_ERROR);
@@ -202,10 +219,11 @@ fn order_in(field: &[u8]) -> Order
     if d < COMMAND_LENGTH {
         return Order::Refused(FRAME_FORM, FIELD_ERROR);
     }
-    let k = parameter(byte_at(field, 2));
+    let k = parameter(byte_at(field, PARAMETER, HEX));
     order_by(command, k, field)
 }
 
+// A frame of a right form: whose it is, its checksum, its characters.
 fn order_here(address: u32, f: &[u8]) -> Order
     requires { ⌜ (address ≤ loveMost) × (shortest ≤ length (now f)) ⌝ }
     ensures { λ r. ⌜ r ≡ orderHere address (now (f .entry)) ⌝ }

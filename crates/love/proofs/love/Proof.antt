@@ -1,10 +1,10 @@
 -- `love::love` meets its contract: 12, then 11, then the dialect. Assumes nothing.
-use Rattle.love.specs.Answer.{loveReply}
-use Rattle.card.proofs.Replies.{shell-unfit, shell-short, shell-passed, gave-words}
-use Rattle.card.specs.Layout.{cardOf}
-use Rattle.card.proofs.Facts.{fit-facts}
-use Rattle.wire.proofs.Cases.{told-no, told-yes}
 use borrow.Author.Needs.{needs}
+use Rattle.wire.proofs.Cases.{told-no, told-yes}
+use Rattle.card.specs.Layout.{cardOf}
+use Rattle.card.proofs.Replies.{shell-unfit, shell-short, shell-passed, gave-words}
+use Rattle.card.proofs.Facts.{fit-facts}
+use Rattle.love.specs.Answer.{loveReply}
 use Rattle.love.proofs.love.Statement.{statement}
 use Rattle.love.proofs.love.Tie as tie
 
@@ -39,9 +39,11 @@ same-length-4 c = search needs
 returns-3 : tie.Need-returns-3
 unfolding loveReply
 returns-3 c =
-    let a = c .before .before .before .before .before .before .before .before .before .before .before .before .before .before .before .before .args in
-    let card = cardOf (a .words .now) (a .memory .now) (a .pending .now) in
-    shell-passed _ _ _ _ (told-yes (c .before .before .before .before .before .before .before .before .before .is-fit .ensures) (c .before .before .before .before .before .before .before .before .if1 .left)) (c .before .before .before .before .before .before .before .if2 .left) (gave-words card _ _ (c .before .before .before .before .obey .ensures))
+    let passed = c .before .before .before .before .before .before .before in
+    let tested = passed .before .before in
+    let a = tested .before .before .before .before .before .before .before .args in
+    shell-passed _ _ _ _ (told-yes (tested .is-fit .ensures) (passed .before .if1 .left)) (passed .if2 .left)
+    (gave-words (cardOf (a .words .now) (a .memory .now) (a .pending .now)) _ _ (c .before .before .before .before .obey .ensures))
 
 pub love-spec : {M : Type 1} → statement M
 love-spec =

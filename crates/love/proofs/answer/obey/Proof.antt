@@ -1,13 +1,14 @@
 -- `love::answer::obey` meets its contract: each order by what its reply was written as. Assumes nothing.
-use Rattle.love.proofs.Frames.{known}
-use Rattle.love.specs.Answer.{obeyed}
-use Rattle.love.specs.declared.frame.Order.the-variants.{Read, Write}
-use Rattle.card.specs.Layout.{loveCount}
-use Rattle.wire.proofs.Buffers.{overlay-none}
-use Prim.Native.Nat.{_<_}
 use mathlib.Core.Path.{refl, sym, _∙_}
+use Prim.Native.Nat.{_<_}
 use native.Mathlib.Omega.{arith}
 use borrow.Author.Needs.{needs}
+use Rattle.wire.proofs.Buffers.{overlay-none}
+use Rattle.card.specs.Layout.{loveCount}
+use Rattle.love.specs.Answer.{obeyed}
+use Rattle.love.specs.declared.frame.Order.the-variants.{Read, Write}
+use Rattle.love.proofs.Frames.{known}
+use Rattle.love.proofs.Answers.{gave-wrote}
 use Rattle.love.proofs.answer.obey.Statement.{statement}
 use Rattle.love.proofs.answer.obey.Tie as tie
 
@@ -60,14 +61,8 @@ put-value-requires c κs = search needs
 enum-known-order-4 : tie.Need-enum-known-order-4
 enum-known-order-4 c = search needs
 
-add-words : tie.Need-add-words
-add-words c = omega (arith, write-known c)
-
-mul-words : tie.Need-mul-words
-mul-words c = omega (arith, write-known c)
-
-slice-write-words : tie.Need-slice-write-words
-slice-write-words c = omega (arith, write-known c)
+store-requires : tie.Need-store-requires
+store-requires c κs = (c .before .before .before .before .before .before .before .before .before .before .pre .0 .0, write-known (c .before))
 
 put-written-requires : tie.Need-put-written-requires
 put-written-requires c κs = search needs
@@ -75,8 +70,9 @@ put-written-requires c κs = search needs
 returns : tie.Need-returns
 unfolding obeyed
 returns c =
-    rw (sym (c .before .before .before .order-of .ensures) ∙ c .before .order .given .1)
-    (record { numbered = refl; measured = refl; written = sym (overlay-none (c .before .before .before .before .before .before .before .before .before .args .out .now)); worded = refl })
+    let o = c .before in
+    rw (sym (o .before .before .order-of .ensures) ∙ o .order .given .1)
+    (record { numbered = refl; measured = refl; written = sym (overlay-none (o .before .before .before .before .before .before .before .before .args .out .now)); worded = refl })
 
 same-length : tie.Need-same-length
 same-length c = search needs
@@ -84,8 +80,8 @@ same-length c = search needs
 returns-2 : tie.Need-returns-2
 unfolding obeyed
 returns-2 c =
-    rw (sym (c .before .before .before .before .before .before .before .order-of .ensures) ∙ c .before .before .before .before .before .order2 .given .1)
-    (record { numbered = refl; measured = c .before .before .put-error .ensures .measured; written = c .before .before .put-error .ensures .written; worded = refl })
+    let o = c .before .before .before .before .before in
+    rw (sym (o .before .before .order-of .ensures) ∙ o .order2 .given .1) (gave-wrote _ _ refl (c .before .before .put-error .ensures))
 
 same-length-2 : tie.Need-same-length-2
 same-length-2 c = search needs
@@ -93,8 +89,8 @@ same-length-2 c = search needs
 returns-3 : tie.Need-returns-3
 unfolding obeyed
 returns-3 c =
-    rw (sym (c .before .before .before .before .before .before .before .order-of .ensures) ∙ c .before .before .before .before .before .enum-told .given .1)
-    (record { numbered = refl; measured = c .before .before .put-probe .ensures .measured; written = c .before .before .put-probe .ensures .written; worded = refl })
+    let o = c .before .before .before .before .before in
+    rw (sym (o .before .before .order-of .ensures) ∙ o .enum-told .given .1) (gave-wrote _ _ refl (c .before .before .put-probe .ensures))
 
 same-length-3 : tie.Need-same-length-3
 same-length-3 c = search needs
@@ -102,8 +98,8 @@ same-length-3 c = search needs
 returns-4 : tie.Need-returns-4
 unfolding obeyed
 returns-4 c =
-    rw (sym (c .before .before .before .before .before .before .before .before .order-of .ensures) ∙ c .before .before .before .before .before .before .order3 .given .1)
-    (record { numbered = refl; measured = c .before .before .put-value .ensures .measured; written = c .before .before .put-value .ensures .written; worded = refl })
+    let o = c .before .before .before .before .before .before in
+    rw (sym (o .before .before .order-of .ensures) ∙ o .order3 .given .1) (gave-wrote _ _ refl (c .before .before .put-value .ensures))
 
 same-length-4 : tie.Need-same-length-4
 same-length-4 c = search needs
@@ -114,8 +110,8 @@ same-length-5 c = search needs
 returns-5 : tie.Need-returns-5
 unfolding obeyed
 returns-5 c =
-    rw (sym (c .before .before .before .before .before .before .before .order-of .ensures) ∙ c .before .before .before .before .before .order4 .given .1)
-    (record { numbered = refl; measured = c .before .before .put-written .ensures .measured; written = c .before .before .put-written .ensures .written; worded = refl })
+    let o = c .before .before .before .before .before .before .before .before .before in
+    rw (sym (o .before .before .order-of .ensures) ∙ o .order4 .given .1) (gave-wrote _ _ (c .before .before .before .before .before .before .store .ensures) (c .before .before .put-written .ensures))
 
 pub obey-spec : {M : Type 1} → statement M
 obey-spec =
@@ -135,9 +131,7 @@ obey-spec =
     slice-read-put-value
     put-value-requires
     enum-known-order-4
-    add-words
-    mul-words
-    slice-write-words
+    store-requires
     put-written-requires
     returns
     same-length

@@ -1,11 +1,11 @@
 -- `love::answer::put_end` meets its contract. Assumes nothing.
-use Rattle.love.specs.Form.{ack}
-use Rattle.figures.specs.Figure.{pairOf}
-use Rattle.wire.proofs.Buffers.{put-set}
-use Rattle.wire.specs.Sum.{sumOf}
-use Rattle.wire.specs.Buffer.{part}
 use mathlib.Core.Path.{refl}
 use borrow.Author.Needs.{needs}
+use Rattle.wire.specs.Sum.{sumOf}
+use Rattle.wire.specs.Buffer.{part}
+use Rattle.wire.proofs.Buffers.{put-set}
+use Rattle.figures.specs.Figure.{pairOf}
+use Rattle.love.specs.Form.{ack, filterAt}
 use Rattle.love.proofs.answer.put_end.Statement.{statement}
 use Rattle.love.proofs.answer.put_end.Tie as tie
 
@@ -40,7 +40,7 @@ returns : tie.Need-returns
 unfolding pairOf
 returns c =
     let a = c .before .before .before .before .before .before .before .before .args in
-    (refl, rw (c .before .before .put-pair .ensures, c .before .before .before .before .sum .ensures) (put-set (a .out .now) (a .end) (pairOf (sumOf (part (a .out .now) 1 (a .end)))) ack (search needs)))
+    (refl, rw (c .before .before .put-pair .ensures, c .before .before .before .before .sum .ensures) (put-set (a .out .now) (a .end) (pairOf (sumOf (part (a .out .now) filterAt (a .end)))) ack (search needs)))
 
 pub put-end-spec : {M : Type 1} → statement M
 put-end-spec =

@@ -1,11 +1,11 @@
 -- `love::answer::put_error` meets its contract. Assumes nothing.
-use Rattle.love.proofs.Answers.{error-stored}
-use Rattle.love.specs.Answer.{unitOf, errorReply}
-use Rattle.figures.specs.Figure.{pairOf}
 use mathlib.Core.Path.{refl}
-use lib.ListN.{length-set}
 use native.Mathlib.Omega.{arith}
+use lib.ListN.{length-set}
 use borrow.Author.Needs.{needs}
+use Rattle.figures.specs.Figure.{pairOf}
+use Rattle.love.specs.Answer.{unitOf, errorReply}
+use Rattle.love.proofs.Answers.{error-stored}
 use Rattle.love.proofs.answer.put_error.Statement.{statement}
 use Rattle.love.proofs.answer.put_error.Tie as tie
 
@@ -21,8 +21,11 @@ add-put-pair c = search needs
 put-pair-requires : tie.Need-put-pair-requires
 put-pair-requires c κs = simp length-set (omega arith)
 
-add-out : tie.Need-add-out
-add-out c = search needs
+add-end : tie.Need-add-end
+add-end c = search needs
+
+add-end-2 : tie.Need-add-end-2
+add-end-2 c = search needs
 
 slice-write-out-2 : tie.Need-slice-write-out-2
 slice-write-out-2 c = rw (c .before .before .put-pair .kept .0) (simp length-set (omega arith))
@@ -36,8 +39,11 @@ same-length c = simp (length-set, c .before .before .put-pair .kept .0, c .befor
 returns : tie.Need-returns
 unfolding errorReply unitOf pairOf
 returns c =
-    let a = c .before .before .before .before .before .before .before .before .before .args in
-    record { measured = refl; written = rw (c .before .before .put-pair .ensures, c .before .before .before .before .before .before .put-unit .ensures) (error-stored (a .address) (a .out .now) (a .code) (c .before .before .before .before .before .before .before .before .before .pre .1)) }
+    let code = c .before .before in
+    let unit = code .before .before .before .before in
+    let s = unit .before .before .before in
+    let a = s .args in
+    record { measured = refl; written = rw (code .put-pair .ensures, unit .put-unit .ensures) (error-stored (a .address) (a .out .now) (a .code) (s .pre .1)) }
 
 pub put-error-spec : {M : Type 1} → statement M
 put-error-spec =
@@ -47,7 +53,8 @@ put-error-spec =
     slice-write-out
     add-put-pair
     put-pair-requires
-    add-out
+    add-end
+    add-end-2
     slice-write-out-2
     add-result
     same-length

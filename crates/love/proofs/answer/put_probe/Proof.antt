@@ -1,8 +1,8 @@
 -- `love::answer::put_probe` meets its contract. Assumes nothing.
-use Rattle.love.proofs.Answers.{status-fault, status-negative, status-positive}
-use Rattle.wire.proofs.Cases.{told-true, told-false}
 use mathlib.Core.Path.{sym, _∙_}
 use borrow.Author.Needs.{needs}
+use Rattle.wire.proofs.Cases.{told-true, told-false}
+use Rattle.love.proofs.Answers.{status-fault, status-negative, status-positive}
 use Rattle.love.proofs.answer.put_probe.Statement.{statement}
 use Rattle.love.proofs.answer.put_probe.Tie as tie
 
@@ -38,8 +38,10 @@ same-length-2 c = search needs
 
 returns-2 : tie.Need-returns-2
 returns-2 c =
-    let e = sym (c .before .before .before .before .before .before .before .before .before .before .read-code .ensures) ∙ c .before .before .before .before .before .before .before .before .tenths .given .1 in
-    rw (← status-negative _ _ e (told-true (c .before .before .before .before .before .is-negative .ensures) (c .before .before .before .before .if1 .taken)), ← c .before .before .before .before .before .before .magnitude .ensures) (c .before .before .put-status2 .ensures)
+    let test = c .before .before .before .before in
+    let known = test .before .before .before .before in
+    let e = sym (known .before .before .read-code .ensures) ∙ known .tenths .given .1 in
+    rw (← status-negative _ _ e (told-true (test .before .is-negative .ensures) (test .if1 .taken)), ← test .before .before .magnitude .ensures) (c .before .before .put-status2 .ensures)
 
 put-status-requires-3 : tie.Need-put-status-requires-3
 put-status-requires-3 c κs = search needs
@@ -49,8 +51,10 @@ same-length-3 c = search needs
 
 returns-3 : tie.Need-returns-3
 returns-3 c =
-    let e = sym (c .before .before .before .before .before .before .before .before .before .before .read-code .ensures) ∙ c .before .before .before .before .before .before .before .before .tenths .given .1 in
-    rw (← status-positive _ _ e (told-false (c .before .before .before .before .before .is-negative .ensures) (c .before .before .before .before .if1 .left)), ← c .before .before .before .before .before .before .magnitude .ensures) (c .before .before .put-status3 .ensures)
+    let test = c .before .before .before .before in
+    let known = test .before .before .before .before in
+    let e = sym (known .before .before .read-code .ensures) ∙ known .tenths .given .1 in
+    rw (← status-positive _ _ e (told-false (test .before .is-negative .ensures) (test .if1 .left)), ← test .before .before .magnitude .ensures) (c .before .before .put-status3 .ensures)
 
 pub put-probe-spec : {M : Type 1} → statement M
 put-probe-spec =

@@ -1,10 +1,10 @@
 -- `love::answer::put_status` meets its contract. Assumes nothing.
-use Rattle.love.proofs.Answers.{status-put, wrote-normal}
-use Rattle.love.specs.Answer.{statusField, figures}
-use Rattle.figures.proofs.Decimals.{digits-length}
-use lib.ListN.{length-set}
 use native.Mathlib.Omega.{arith}
+use lib.ListN.{length-set}
 use borrow.Author.Needs.{needs}
+use Rattle.figures.proofs.Decimals.{digits-length}
+use Rattle.love.specs.Answer.{statusField, figureCount}
+use Rattle.love.proofs.Answers.{status-put, wrote-normal}
 use Rattle.love.proofs.answer.put_status.Statement.{statement}
 use Rattle.love.proofs.answer.put_status.Tie as tie
 
@@ -53,9 +53,12 @@ same-length c = simp (c .before .before .put-end .kept .0, c .before .before .be
 returns : tie.Need-returns
 unfolding statusField
 returns c =
-    let a = c .before .before .before .before .before .before .before .before .before .before .before .before .before .args in
-    wrote-normal (a .address) (a .out .now) (statusField (a .first) (a .fourth) (a .number)) 12 _ _ _ (omega (arith, digits-length figures (a .number)))
-    (rw (c .before .before .before .before .before .before .put-digits .ensures, c .before .before .before .before .before .before .before .before .before .before .put-unit .ensures) (status-put (a .address) (a .out .now) (a .first) (a .fourth) (a .number) (c .before .before .before .before .before .before .before .before .before .before .before .before .before .pre .1)))
+    let figures = c .before .before .before .before .before .before in
+    let unit = figures .before .before .before .before in
+    let s = unit .before .before .before in
+    let a = s .args in
+    wrote-normal (a .address) (a .out .now) (statusField (a .first) (a .fourth) (a .number)) 12 _ _ _ (omega (arith, digits-length figureCount (a .number)))
+    (rw (figures .put-digits .ensures, unit .put-unit .ensures) (status-put (a .address) (a .out .now) (a .first) (a .fourth) (a .number) (s .pre .1)))
     (c .before .before .put-end .ensures)
 
 pub put-status-spec : {M : Type 1} → statement M

@@ -1,8 +1,8 @@
 -- `love::answer::put_unit` meets its contract. Assumes nothing.
-use Rattle.love.proofs.Answers.{unit-stored}
-use lib.ListN.{length-set}
 use native.Mathlib.Omega.{arith}
+use lib.ListN.{length-set}
 use borrow.Author.Needs.{needs}
+use Rattle.love.proofs.Answers.{unit-stored}
 use Rattle.love.proofs.answer.put_unit.Statement.{statement}
 use Rattle.love.proofs.answer.put_unit.Tie as tie
 

@@ -1,12 +1,11 @@
 -- `love::answer::put_value` meets its contract. Assumes nothing.
-use Rattle.love.proofs.Answers.{value-put, wrote-normal}
-use Rattle.love.specs.Answer.{valueField, negative, positive, figures}
-use Rattle.figures.proofs.Decimals.{digits-length}
-use Rattle.figures.specs.Signed.{isNegative, magnitude}
-use Rattle.figures.specs.Figure.{pairOf}
-use Rattle.wire.specs.Choose.{choose}
 use native.Mathlib.Omega.{arith}
 use borrow.Author.Needs.{needs}
+use Rattle.figures.specs.Signed.{magnitude}
+use Rattle.figures.specs.Figure.{pairOf}
+use Rattle.figures.proofs.Decimals.{digits-length}
+use Rattle.love.specs.Answer.{signOf, valueField, figureCount}
+use Rattle.love.proofs.Answers.{value-put, wrote-normal}
 use Rattle.love.proofs.answer.put_value.Statement.{statement}
 use Rattle.love.proofs.answer.put_value.Tie as tie
 
@@ -43,11 +42,14 @@ same-length c = search needs
 returns : tie.Need-returns
 unfolding valueField pairOf
 returns c =
-    let a = c .before .before .before .before .before .before .before .before .before .before .before .before .before .before .before .before .before .before .before .args in
+    let figures = c .before .before .before .before .before .before in
+    let sign = figures .before .before .before .before .before in
+    let unit = sign .before .before .before .before .before in
+    let a = unit .before .before .before .args in
     let m = magnitude (a .word) in
-    let sign = choose (isNegative (a .word)) negative positive in
-    wrote-normal (a .address) (a .out .now) (valueField (a .word)) 10 _ _ _ (omega (arith, digits-length figures m))
-    (rw (c .before .before .before .before .before .before .put-digits .ensures, c .before .before .before .before .before .before .before .magnitude .ensures, c .before .before .before .before .before .before .before .before .before .before .before .put-pair .ensures, c .before .before .before .before .before .before .before .before .before .before .before .before .sign-of .ensures, c .before .before .before .before .before .before .before .before .before .before .before .before .before .before .before .before .put-unit .ensures) (value-put (a .address) (a .out .now) sign m))
+    wrote-normal (a .address) (a .out .now) (valueField (a .word)) 10 _ _ _ (omega (arith, digits-length figureCount m))
+    (rw (figures .put-digits .ensures, figures .before .magnitude .ensures, sign .put-pair .ensures, sign .before .sign-of .ensures, unit .put-unit .ensures)
+    (value-put (a .address) (a .out .now) (signOf (a .word)) m))
     (c .before .before .put-end .ensures)
 
 pub put-value-spec : {M : Type 1} → statement M

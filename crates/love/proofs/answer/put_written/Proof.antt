@@ -1,9 +1,9 @@
 -- `love::answer::put_written` meets its contract. Assumes nothing.
-use Rattle.love.proofs.Answers.{field-put, wrote-normal}
-use Rattle.love.specs.Answer.{writtenField}
-use Rattle.figures.specs.Figure.{pairOf}
 use mathlib.Core.Path.{refl}
 use borrow.Author.Needs.{needs}
+use Rattle.figures.specs.Figure.{pairOf}
+use Rattle.love.specs.Answer.{writtenField}
+use Rattle.love.proofs.Answers.{field-put, wrote-normal}
 use Rattle.love.proofs.answer.put_written.Statement.{statement}
 use Rattle.love.proofs.answer.put_written.Tie as tie
 
@@ -25,9 +25,11 @@ same-length c = search needs
 returns : tie.Need-returns
 unfolding writtenField pairOf
 returns c =
-    let a = c .before .before .before .before .before .before .before .before .before .before .before .before .before .args in
+    let sign = c .before .before .before .before .before .before in
+    let unit = sign .before .before .before .before in
+    let a = unit .before .before .before .args in
     wrote-normal (a .address) (a .out .now) writtenField 6 _ _ _ refl
-    (rw (c .before .before .before .before .before .before .put-pair .ensures, c .before .before .before .before .before .before .before .before .before .before .put-unit .ensures) (field-put (a .address) (a .out .now) writtenField))
+    (rw (sign .put-pair .ensures, unit .put-unit .ensures) (field-put (a .address) (a .out .now) writtenField))
     (c .before .before .put-end .ensures)
 
 pub put-written-spec : {M : Type 1} → statement M

@@ -1,11 +1,11 @@
 -- `love::frame::number_in` meets its contract: four decimal figures hold less than 2^32. Assumes nothing.
-use Rattle.figures.proofs.Decimals.{value-below}
-use Rattle.wire.specs.Buffer.{part}
-use lib.ListN.{length, length-take, length-drop}
 use mathlib.Core.Path.{_≡_}
 use native.Mathlib.Omega.{arith}
-use Rattle.love.specs.Frame.{numberIn, valueAt, signAt}
+use lib.ListN.{length, length-take, length-drop}
 use borrow.Author.Needs.{needs}
+use Rattle.wire.specs.Buffer.{part}
+use Rattle.figures.proofs.Decimals.{value-below}
+use Rattle.love.specs.Frame.{numberIn, valueAt, signAt}
 use Rattle.love.proofs.frame.number_in.Statement.{statement}
 use Rattle.love.proofs.frame.number_in.Tie as tie
 

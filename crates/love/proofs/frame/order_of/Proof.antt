@@ -1,12 +1,12 @@
 -- `love::frame::order_of` meets its contract, test by test. Assumes nothing.
-use Rattle.love.proofs.Frames.{length-least}
-use Rattle.love.specs.Form.{shortest}
-use lib.ListN.{length}
 use Prim.Native.Nat.{_≤_}
-use Rattle.love.specs.Frame.{asked}
 use native.Mathlib.Omega.{arith}
-use Rattle.wire.proofs.Cases.{cases, told-yes}
+use lib.ListN.{length}
 use borrow.Author.Needs.{needs}
+use Rattle.wire.proofs.Cases.{cases, told-yes}
+use Rattle.love.specs.Form.{shortest}
+use Rattle.love.specs.Frame.{asked}
+use Rattle.love.proofs.Frames.{length-least}
 use Rattle.love.proofs.frame.order_of.Statement.{statement}
 use Rattle.love.proofs.frame.order_of.Tie as tie
 

@@ -1,7 +1,7 @@
 -- `love::frame::order_write` meets its contract, test by test. Assumes nothing.
-use Rattle.love.specs.Frame.{orderWrite}
-use Rattle.wire.proofs.Cases.{cases, told-yes}
 use borrow.Author.Needs.{needs}
+use Rattle.wire.proofs.Cases.{cases, told-yes}
+use Rattle.love.specs.Frame.{orderWrite}
 use Rattle.love.proofs.frame.order_write.Statement.{statement}
 use Rattle.love.proofs.frame.order_write.Tie as tie
 

@@ -1,6 +1,6 @@
 -- `love::frame::parameter` meets its contract, test by test. Assumes nothing.
-use Rattle.love.specs.Frame.{parameterOf}
 use Rattle.wire.proofs.Cases.{cases}
+use Rattle.love.specs.Frame.{parameterOf}
 use Rattle.love.proofs.frame.parameter.Statement.{statement}
 use Rattle.love.proofs.frame.parameter.Tie as tie
 

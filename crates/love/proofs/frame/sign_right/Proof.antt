@@ -1,6 +1,6 @@
 -- `love::frame::sign_right` meets its contract. Assumes nothing.
-use Rattle.love.specs.Frame.{signRight}
 use borrow.Author.Needs.{needs}
+use Rattle.love.specs.Frame.{signRight}
 use Rattle.love.proofs.frame.sign_right.Statement.{statement}
 use Rattle.love.proofs.frame.sign_right.Tie as tie
 

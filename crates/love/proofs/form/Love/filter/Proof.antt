@@ -1,6 +1,6 @@
 -- `love::form::Love::filter` meets its contract. Assumes nothing.
-use Rattle.love.specs.Form.{filterOf}
 use borrow.Author.Needs.{needs}
+use Rattle.love.specs.Form.{filterOf}
 use Rattle.love.proofs.form.Love.filter.Statement.{statement}
 use Rattle.love.proofs.form.Love.filter.Tie as tie
 
