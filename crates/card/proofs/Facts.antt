@@ -7,7 +7,7 @@ use native.Mathlib.Nat.{not-suc-le-zero, le-of-suc-le-suc}
 use native.Mathlib.Omega.{arith}
 use borrow.Author.Tests.{leb-true, eqb-true}
 use lib.Dec.{leb, eqb, ltb}
-use lib.ListN.{length, getD, take, drop, length-take, length-drop}
+use lib.ListN.{length, getD, take, drop, set, length-take, length-drop}
 use lib.Seq.{getD-take, getD-drop}
 use Rattle.wire.specs.Choose.{choose}
 use Rattle.wire.specs.Buffer.{part}
@@ -62,6 +62,15 @@ part-at lo hi ws a e i t h k =
     let l : i < length (part ws a e) = simp (length-take, length-drop) (omega arith) in
     let same : getD (part ws a e) i 0 ≡ getD ws (a + i) 0 = getD-take (e - a) (drop a ws) i 0 (omega arith) ∙ getD-drop a ws i 0 in
     subst (λ (x : ℕ). inSpan lo hi x ≡ true) same (allIn-at lo hi (part ws a e) i t l)
+
+-- a word of the span stored among words that are all in it
+pub allIn-set : (lo hi : ℕ) (s : List ℕ) (i x : ℕ) → allIn lo hi s ≡ true → inSpan lo hi x ≡ true → allIn lo hi (set s i x) ≡ true
+unfolding allIn
+allIn-set lo hi [] i x e h = refl
+allIn-set lo hi (y ∷ s) zero x e h = rw h (and-true (inSpan lo hi y) (allIn lo hi s) e .1)
+allIn-set lo hi (y ∷ s) (suc i) x e h =
+    let t = and-true (inSpan lo hi y) (allIn lo hi s) e in
+    rw (t .0) (allIn-set lo hi s i x (t .1) h)
 
 -- a span that starts at zero is an upper bound
 pub span-most : (hi x : ℕ) → leb 0 hi ≡ true → inSpan 0 hi x ≡ true → x ≤ hi

@@ -6,8 +6,13 @@ use native.Mathlib.Nat.{add-zero, zero-add}
 use native.Mathlib.Numerals.{add-one}
 use native.Mathlib.Omega.{arith}
 use lib.ListN.{length, take, drop, set, getD, length-append, length-drop, length-take}
+<<<<<<< HEAD
 use lib.Seq.{take-append-seam, drop-append-add, set-append-seam, drop-drop, drop-cons, take-add, take-all, sets, sets-eq}
 use Rattle.wire.specs.Buffer.{put, overlay, part}
+=======
+use lib.Seq.{take-append-seam, drop-append-add, set-append-seam, set-at, drop-drop, drop-cons, length-take-le, sets, sets-eq}
+use Rattle.wire.specs.Buffer.{put, overlay}
+>>>>>>> 6fb1a835c343e22fc791734c061300ab4dac57ac
 
 pub overlay-none : (out : List ℕ) → overlay [] out ≡ out
 unfolding overlay
@@ -44,6 +49,18 @@ overlay-rest x b out = take-append-seam b (drop (suc (length b)) out)
 pub put-sets : (vs d : List ℕ) (at : ℕ) → at + length vs ≤ length d → sets d at vs ≡ put d at vs
 unfolding put
 put-sets vs d at h = sets-eq vs d at h ∙ append-assoc (take at d) vs (drop (at + length vs) d)
+
+-- an element stored after a list that was put
+pub put-set : (d : List ℕ) (at : ℕ) (vs : List ℕ) (x : ℕ) → at + length vs < length d → set (put d at vs) (at + length vs) x ≡ put d at (vs ++ (x ∷ []))
+unfolding put
+put-set d at vs x h =
+    let n = at + length vs in
+    let l : length (take at d ++ vs) ≡ n = length-append (take at d) vs ∙ ap (λ (k : ℕ). k + length vs) (length-take-le at d (omega arith)) in
+    let m : at + length (vs ++ (x ∷ [])) ≡ suc n = rw length-append (omega arith) in
+    ap (λ (r : List ℕ). set (take at d ++ (vs ++ r)) n x) (drop-cons d n 0 h)
+    ∙ ap (λ (r : List ℕ). set r n x) (sym (append-assoc (take at d) vs (getD d n 0 ∷ drop (suc n) d)))
+    ∙ set-at (take at d ++ vs) (getD d n 0) (drop (suc n) d) x n l
+    ∙ rw m (simp append-assoc)
 
 pub length-put : (d : List ℕ) (at : ℕ) (vs : List ℕ) → at + length vs ≤ length d → length (put d at vs) ≡ length d
 unfolding put

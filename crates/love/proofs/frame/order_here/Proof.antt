@@ -1,0 +1,63 @@
+-- `love::frame::order_here` meets its contract, test by test. Assumes nothing.
+use borrow.Author.Needs.{needs}
+use Rattle.wire.proofs.Cases.{cases}
+use Rattle.love.specs.Frame.{orderHere}
+use Rattle.love.proofs.frame.order_here.Statement.{statement}
+use Rattle.love.proofs.frame.order_here.Tie as tie
+
+is-for-requires : tie.Need-is-for-requires
+is-for-requires c κs = search needs
+
+returns : tie.Need-returns
+unfolding orderHere
+returns c = search cases
+
+checksum-right-requires : tie.Need-checksum-right-requires
+checksum-right-requires c κs = search needs
+
+returns-2 : tie.Need-returns-2
+unfolding orderHere
+returns-2 c = search cases
+
+sub-end : tie.Need-sub-end
+sub-end c = search needs
+
+sub-field : tie.Need-sub-field
+sub-field c = search needs
+
+part-field-start : tie.Need-part-field-start
+part-field-start c = search needs
+
+part-field-end : tie.Need-part-field-end
+part-field-end c = search needs
+
+all-figures-requires : tie.Need-all-figures-requires
+all-figures-requires c κs = search needs
+
+returns-3 : tie.Need-returns-3
+unfolding orderHere
+returns-3 c = search cases
+
+order-in-requires : tie.Need-order-in-requires
+order-in-requires c κs = search needs
+
+returns-4 : tie.Need-returns-4
+unfolding orderHere
+returns-4 c = search cases
+
+pub order-here-spec : {M : Type 1} → statement M
+order-here-spec =
+    tie.close
+    (tie.spec
+    is-for-requires
+    returns
+    checksum-right-requires
+    returns-2
+    sub-end
+    sub-field
+    part-field-start
+    part-field-end
+    all-figures-requires
+    returns-3
+    order-in-requires
+    returns-4)

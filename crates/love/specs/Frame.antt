@@ -1,0 +1,185 @@
+-- What a Love frame asks of the unit at an address, in the order of document 01, "Love": a line of an order is a test, and the number
+-- and the error code if it fails.
+use Prim.Native.Nat.{ℕ, _+_, _-_, _%_}
+use mathlib.Core.Bool.{Bool, _&&_, _||_}
+use mathlib.Core.List.{List}
+use lib.Dec.{leb, ltb, eqb}
+use lib.ListN.{length, getD}
+use Rattle.wire.specs.Choose.{choose}
+use Rattle.wire.specs.Buffer.{part}
+use Rattle.wire.specs.Sum.{sumOf}
+use Rattle.figures.specs.Figure.{decimal, upperHex, hex, allFigures, pairByte}
+use Rattle.figures.specs.Decimal.{valueOf}
+use Rattle.figures.specs.Signed.{withSign}
+use Rattle.card.specs.Numbers.{foreignAddress, frameForm, checkCharacter, commandUnknown, valueOutside}
+use Rattle.card.specs.Layout.{loveCount}
+use Rattle.card.specs.Tables.{inSpan, loveLeast, loveHighest}
+use Rattle.love.specs.Form.{lengthRight, stx, etx, filterAt, addressAt, fieldAt, tail, hundred, filterOf}
+use Rattle.love.specs.declared.frame.Order.{Order}
+use Rattle.love.specs.declared.frame.Order.the-variants.{Silent, Refused, Probe, Read, Write}
+
+-- error codes, by source document 004's names
+abbrev pub undefinedCommand : ℕ
+undefinedCommand = 0x01
+
+abbrev pub checksumError : ℕ
+checksumError = 0x02
+
+abbrev pub illegalCharacter : ℕ
+illegalCharacter = 0x04
+
+abbrev pub fieldError : ℕ
+fieldError = 0x05
+
+abbrev pub outOfRange : ℕ
+outOfRange = 0x06
+
+-- a test, and the number if it fails; then no bytes are sent
+abbrev pub silently : Bool → ℕ → Order → Order
+silently test number rest = choose test rest (Silent number)
+
+-- a test, and the number and the error code if it fails
+abbrev pub unless : Bool → ℕ → ℕ → Order → Order
+unless test number code rest = choose test rest (Refused number code)
+
+-- a frame's data
+abbrev pub fieldOf : List ℕ → List ℕ
+fieldOf f = part f fieldAt (length f - tail)
+
+-- the byte that two characters are, both of them figures below limit. "In data a to f mean A to F": there the limit is `hex`
+abbrev pub byteAt : ℕ → List ℕ → ℕ → ℕ
+byteAt limit s i = pairByte limit (getD s i 0) (getD s (i + 1) 0)
+
+-- filter and address are the unit's
+unfoldable pub forUnit : ℕ → List ℕ → Bool
+forUnit address f = eqb (getD f filterAt 0) (filterOf address) && eqb (byteAt upperHex f addressAt) (address % hundred)
+
+-- "A host checksum adds address and data characters. .. The host's two checksum figures are upper-case, else 4."
+unfoldable pub checksumRight : List ℕ → Bool
+checksumRight f = eqb (byteAt upperHex f (length f - tail)) (sumOf (part f addressAt (length f - tail)))
+
+-- where a command's two halves stand in the data, and a write's four figures and sign
+abbrev pub commandAt : ℕ
+commandAt = 0
+
+abbrev pub parameterAt : ℕ
+parameterAt = 2
+
+abbrev pub valueAt : ℕ
+valueAt = 4
+
+abbrev pub signAt : ℕ
+signAt = 8
+
+-- the first half: 00, 01.. and 02..
+abbrev pub statusCommand : ℕ
+statusCommand = 0x00
+
+abbrev pub readCommand : ℕ
+readCommand = 0x01
+
+abbrev pub writeCommand : ℕ
+writeCommand = 0x02
+
+-- the second half: ..00, ..02, ..04 and ..05
+abbrev pub sp1 : ℕ
+sp1 = 0x00
+
+abbrev pub sp2 : ℕ
+sp2 = 0x02
+
+abbrev pub allo : ℕ
+allo = 0x04
+
+abbrev pub alhi : ℕ
+alhi = 0x05
+
+-- the parameter that a second half names: its place among Love's four, or `loveCount` for none
+unfoldable pub parameterOf : ℕ → ℕ
+parameterOf low =
+    choose (eqb low sp1) 0
+    (choose (eqb low sp2) 1
+    (choose (eqb low allo) 2
+    (choose (eqb low alhi) 3
+    loveCount)))
+
+-- data lengths: the least and the most, that of 00, the least of any other command, and those of a read and of a write
+abbrev pub fieldLeast : ℕ
+fieldLeast = 2
+
+abbrev pub fieldMost : ℕ
+fieldMost = 10
+
+abbrev pub statusLength : ℕ
+statusLength = 2
+
+abbrev pub commandLength : ℕ
+commandLength = 4
+
+abbrev pub readLength : ℕ
+readLength = 4
+
+abbrev pub writeLength : ℕ
+writeLength = 10
+
+-- the signs of a write
+abbrev pub plusSign : ℕ
+plusSign = 0x00
+
+abbrev pub minusSign : ℕ
+minusSign = 0xFF
+
+-- a write's sign is 00 or FF
+unfoldable pub signRight : List ℕ → Bool
+signRight field = eqb (byteAt hex field signAt) plusSign || eqb (byteAt hex field signAt) minusSign
+
+-- the number that a write's data holds, as a word; minus zero is zero
+unfoldable pub numberIn : List ℕ → ℕ
+numberIn field = withSign (eqb (byteAt hex field signAt) minusSign) (valueOf (part field valueAt signAt))
+
+-- "Write: four decimal figures, then sign 00 or FF; else 7, code 05. Value outside: 7, code 06."
+unfoldable pub orderWrite : ℕ → List ℕ → Order
+orderWrite k field =
+    unless (allFigures decimal (part field valueAt signAt)) valueOutside fieldError
+    (unless (signRight field) valueOutside fieldError
+    (unless (inSpan loveLeast loveHighest (numberIn field)) valueOutside outOfRange
+    (Write k (numberIn field))))
+
+-- "0100, 0102, 0104, 0105 read with d = 4; 0200, 0202, 0204, 0205 write with d = 10; else 5, code 01; a wrong d is 3, code 05."
+unfoldable pub orderBy : ℕ → ℕ → List ℕ → Order
+orderBy command k field =
+    unless (ltb k loveCount) commandUnknown undefinedCommand
+    (choose (eqb command readCommand)
+    (unless (eqb (length field) readLength) frameForm fieldError
+    (Read k))
+    (unless (eqb command writeCommand) commandUnknown undefinedCommand
+    (unless (eqb (length field) writeLength) frameForm fieldError
+    (orderWrite k field))))
+
+-- "d below 2 or above 10: 3, code 05. 00 needs d = 2, else 3, code 05. Any other with d below 4: 3, code 05."
+unfoldable pub orderIn : List ℕ → Order
+orderIn field =
+    unless (leb fieldLeast (length field)) frameForm fieldError
+    (unless (leb (length field) fieldMost) frameForm fieldError
+    (choose (eqb (byteAt hex field commandAt) statusCommand)
+    (unless (eqb (length field) statusLength) frameForm fieldError
+    Probe)
+    (unless (leb commandLength (length field)) frameForm fieldError
+    (orderBy (byteAt hex field commandAt) (parameterOf (byteAt hex field parameterAt)) field))))
+
+-- "filter and address (2); checksum (4, code 02); data characters outside 0-9, A-F, a-f (3, code 04); then, d being the data length:"
+unfoldable pub orderHere : ℕ → List ℕ → Order
+orderHere address f =
+    silently (forUnit address f) foreignAddress
+    (unless (checksumRight f) checkCharacter checksumError
+    (unless (allFigures hex (fieldOf f)) frameForm illegalCharacter
+    (orderIn (fieldOf f))))
+
+-- "Order: STX, ETX, address figures (3, silent);"
+unfoldable pub asked : ℕ → List ℕ → Order
+asked address f =
+    silently (lengthRight (length f)) frameForm
+    (silently (eqb (getD f 0 0) stx) frameForm
+    (silently (eqb (getD f (length f - 1) 0) etx) frameForm
+    (silently (allFigures upperHex (part f addressAt fieldAt)) frameForm
+    (orderHere address f))))

@@ -1,0 +1,193 @@
+// What the card answers a Love frame. Document 01, "Love", last paragraph.
+use crate::form::HUNDRED;
+use crate::form::Love;
+use crate::form::PAIR;
+use crate::frame;
+use crate::frame::Order;
+use card::Outcome;
+use card::layout::LOVE;
+use card::layout::LOVE_ADDRESS;
+use card::numbers::ANSWERED;
+use card::probe::Reading;
+use card::probe::read_code;
+ghost use mathlib.Core.Path.{_≡_};
+ghost use mathlib.Core.List.{[], _∷_, _++_};
+ghost use Prim.Native.Nat.{_≤_, _<_, _+_};
+ghost use lib.ListN.{length, set};
+ghost use Rattle.wire.specs.Buffer.{put, part, overlay};
+ghost use Rattle.wire.specs.Sum.{sumOf};
+ghost use Rattle.figures.specs.Figure.{pairOf};
+ghost use Rattle.card.specs.Layout.{loveAt, loveCount, wordCount, memorySize};
+ghost use Rattle.card.specs.Tables.{loveMost};
+ghost use Rattle.card.specs.Probe.{readingOf};
+ghost use Rattle.card.specs.Reply.{Wrote, GaveWords, roomLeast};
+ghost use Rattle.love.specs.Form.{stx, ack, filterAt, tail};
+ghost use Rattle.love.specs.Frame.{asked};
+ghost use Rattle.love.specs.Answer.{unitOf, errorReply, normalReply, writtenField, signOf, valueField, statusField, probeField, addressOf, obeyed};
+
+// The mark of an error reply.
+const ERROR: u8 = b'N';
+
+// The data of a write's reply.
+const WRITTEN: u8 = 0x00;
+
+// The signs of a read.
+const POSITIVE: u8 = 0x00;
+
+const NEGATIVE: u8 = 0x01;
+
+// How many figures a number has in a reply.
+const FIGURES: usize = 4;
+
+// The data for 00: how many characters stand before its figures; the first without and with a fault; the fourth of a negative
+// number; and any other.
+const STATUS: usize = 4;
+
+const FINE: u8 = b'C';
+
+const FAULT: u8 = b'D';
+
+const BELOW_ZERO: u8 = b'2';
+
+const ZERO: u8 = b'0';
+
+// Writes what begins every reply: STX, filter and address.
+fn put_unit(out: &mut [u8], address: u32)
+    requires { ⌜ (address ≤ loveMost) × (roomLeast ≤ length (now out)) ⌝ }
+    ensures { λ _. ⌜ now (out .exit) ≡ overlay (stx ∷ unitOf address) (now (out .entry)) ⌝ }
+{
+    out[0] = Love::STX;
+    out[Love::FILTER] = Love::filter(address);
+    figures::put_pair(out, Love::ADDRESS, (address % HUNDRED) as u8);
+}
+
+// Writes what ends a normal reply whose data ends before index end: checksum and ACK.
+fn put_end(out: &mut [u8], end: usize) -> usize
+    requires { ⌜ (filterAt ≤ end) × (end + tail ≤ length (now out)) ⌝ }
+    ensures { λ r. ⌜ (r ≡ end + tail) × (now (out .exit) ≡ put (now (out .entry)) end (pairOf (sumOf (part (now (out .entry)) filterAt end)) ++ (ack ∷ []))) ⌝ }
+{
+    let sum = wire::sum(&out[Love::FILTER..end]);
+    figures::put_pair(out, end, sum);
+    out[end + PAIR] = Love::ACK;
+    end + Love::TAIL
+}
+
+// Writes an error reply.
+fn put_error(out: &mut [u8], address: u32, code: u8) -> usize
+    requires { ⌜ (address ≤ loveMost) × (roomLeast ≤ length (now out)) ⌝ }
+    ensures { λ r. ⌜ Wrote (errorReply address code) (now (out .entry)) r (now (out .exit)) ⌝ }
+{
+    put_unit(out, address);
+    out[Love::DATA] = ERROR;
+    figures::put_pair(out, Love::DATA + 1, code);
+    let end = Love::DATA + 1 + PAIR;
+    out[end] = Love::ACK;
+    end + 1
+}
+
+// Writes the reply to a write.
+fn put_written(out: &mut [u8], address: u32) -> usize
+    requires { ⌜ (address ≤ loveMost) × (roomLeast ≤ length (now out)) ⌝ }
+    ensures { λ r. ⌜ Wrote (normalReply address writtenField) (now (out .entry)) r (now (out .exit)) ⌝ }
+{
+    put_unit(out, address);
+    figures::put_pair(out, Love::DATA, WRITTEN);
+    put_end(out, Love::DATA + PAIR)
+}
+
+// The sign of a word in the reply to a read.
+fn sign_of(word: u32) -> u8
+    ensures { λ r. ⌜ r ≡ signOf word ⌝ }
+{
+    if figures::is_negative(word) {
+        return NEGATIVE;
+    }
+    POSITIVE
+}
+
+// Writes the reply to a read.
+fn put_value(out: &mut [u8], address: u32, word: u32) -> usize
+    requires { ⌜ (address ≤ loveMost) × (roomLeast ≤ length (now out)) ⌝ }
+    ensures { λ r. ⌜ Wrote (normalReply address (valueField word)) (now (out .entry)) r (now (out .exit)) ⌝ }
+{
+    put_unit(out, address);
+    figures::put_pair(out, Love::DATA, sign_of(word));
+    figures::put_digits(out, Love::DATA + PAIR, FIGURES, figures::magnitude(word));
+    put_end(out, Love::DATA + PAIR + FIGURES)
+}
+
+// Writes the reply to 00.
+fn put_status(out: &mut [u8], address: u32, first: u8, fourth: u8, number: u32) -> usize
+    requires { ⌜ (address ≤ loveMost) × (roomLeast ≤ length (now out)) ⌝ }
+    ensures { λ r. ⌜ Wrote (normalReply address (statusField first fourth number)) (now (out .entry)) r (now (out .exit)) ⌝ }
+{
+    put_unit(out, address);
+    out[Love::DATA] = first;
+    out[Love::DATA + 1] = ZERO;
+    out[Love::DATA + 2] = ZERO;
+    out[Love::DATA + 3] = fourth;
+    figures::put_digits(out, Love::DATA + STATUS, FIGURES, number);
+    put_end(out, Love::DATA + STATUS + FIGURES)
+}
+
+// Answers 00 by a probe's code: the temperature is taken out of the reading, or the fault is answered.
+fn put_probe(out: &mut [u8], address: u32, code: u8) -> usize
+    requires { ⌜ (address ≤ loveMost) × (roomLeast ≤ length (now out)) ⌝ }
+    ensures { λ r. ⌜ Wrote (normalReply address (probeField (readingOf code))) (now (out .entry)) r (now (out .exit)) ⌝ }
+{
+    let Reading::Temperature(tenths) = read_code(code) else {
+        return put_status(out, address, FAULT, ZERO, 0);
+    };
+    let word = tenths.0;
+    let number = figures::magnitude(word);
+    if figures::is_negative(word) {
+        return put_status(out, address, FINE, BELOW_ZERO, number);
+    }
+    put_status(out, address, FINE, ZERO, number)
+}
+
+// Stores a parameter.
+fn store(words: &mut [u32], k: usize, word: u32)
+    requires { ⌜ (length (now words) ≡ wordCount) × (k < loveCount) ⌝ }
+    ensures { λ _. ⌜ now (words .exit) ≡ set (now (words .entry)) (loveAt + k) word ⌝ }
+{
+    words[LOVE + k] = word;
+}
+
+// Carries out what a frame asks on the words of a fit card.
+pub fn obey(words: &mut [u32], memory: &[u8], f: &[u8], out: &mut [u8]) -> Outcome
+    requires { ⌜ ((length (now words) ≡ wordCount) × (addressOf (now words) ≤ loveMost)) × ((length (now memory) ≡ memorySize) × (roomLeast ≤ length (now out))) ⌝ }
+    ensures { λ r. ⌜ GaveWords (obeyed (now (words .entry)) (now (memory .entry)) (asked (addressOf (now (words .entry))) (now (f .entry)))) (now (out .entry)) (r .number) (r .len) (now (words .exit)) (now (out .exit)) ⌝ }
+{
+    let address = words[LOVE_ADDRESS];
+    let order = frame::order_of(address, f);
+    match order {
+        Order::Silent(number) => Outcome { number, len: 0 },
+        Order::Refused(number, code) => {
+            let len = put_error(out, address, code);
+            Outcome { number, len }
+        }
+        Order::Probe => {
+            let len = put_probe(out, address, memory[0]);
+            Outcome {
+                number: ANSWERED,
+                len,
+            }
+        }
+        Order::Read(k) => {
+            let len = put_value(out, address, words[LOVE + k]);
+            Outcome {
+                number: ANSWERED,
+                len,
+            }
+        }
+        Order::Write(k, word) => {
+            store(words, k, word);
+            let len = put_written(out, address);
+            Outcome {
+                number: ANSWERED,
+                len,
+            }
+        }
+    }
+}
