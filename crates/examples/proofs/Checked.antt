@@ -1,16 +1,23 @@
 -- Document 01's checked examples hold of the written meanings: one claim over all rows, computed. Assumes nothing.
 use mathlib.Core.Path.{_≡_, refl}
-use mathlib.Core.Bool.{Bool, true, false, _&&_}
+use mathlib.Core.Bool.{Bool, true, _&&_}
 use mathlib.Core.List.{List, [], _∷_}
-use Prim.Native.Nat.{ℕ}
 use Rattle.wire.specs.Choose.{choose}
-use Rattle.wire.specs.Buffer.{overlay}
+use Rattle.wire.specs.Buffer.{put, overlay}
 use Rattle.wire.specs.Sum.{total, sumOf}
+use Rattle.figures.specs.Figure.{inRange, figureOf, charOf, allFigures, pairByte, pairOf}
+use Rattle.figures.specs.Decimal.{digits, sizeWithin, sizeOf, shortest, valueFrom, valueOf}
+use Rattle.figures.specs.Signed.{isNegative, magnitude, withSign, textOf, figuresOf, parsedOf}
 use Rattle.card.specs.Tables.{inSpan, allIn, inMemory, namesReadOnly, named, numRight, echoable, addressOf, fitPending, fitAddresses, fitParameters, fitWords, fit}
-use Rattle.card.specs.Entries.{withCode, setCode, dropped}
+use Rattle.card.specs.Entries.{withCode, setCode, fullDemands, keptParameters, savedCopy, savedRegisters, dropped, faulted, restarted, restart}
 use Rattle.card.specs.Reply.{shell, guarded}
-use Rattle.datalink.specs.Frame.{iaIn, commandIn, numIn, addressIn, commandKnown, kindOf, kindIn, namedIn, isAcknowledge, carried, lengthRight, formRight, lrcRight, rangeRight, changeAllowed, changeRight, orderIn, asked}
-use Rattle.datalink.specs.Answer.{response, iaOf, shown, interrogated, bodyOf, pended, echoed, newByte, changed, appliedTo, applied, acknowledged, obeyed, datalinkReply}
+use Rattle.card.specs.Probe.{tenthsOf, readingOf}
+use Rattle.datalink.specs.Frame.{iaIn as datalinkIaIn, commandIn as datalinkCommandIn, numIn as datalinkNumIn, addressIn as datalinkAddressIn, commandKnown as datalinkCommandKnown, kindOf as datalinkKindOf, kindIn as datalinkKindIn, namedIn as datalinkNamedIn, isAcknowledge as datalinkIsAcknowledge, carried as datalinkCarried, lengthRight as datalinkLengthRight, formRight as datalinkFormRight, lrcRight as datalinkLrcRight, rangeRight as datalinkRangeRight, changeAllowed as datalinkChangeAllowed, changeRight as datalinkChangeRight, orderIn as datalinkOrderIn, asked as datalinkAsked}
+use Rattle.datalink.specs.Answer.{response as datalinkResponse, iaOf as datalinkIaOf, shown as datalinkShown, interrogated as datalinkInterrogated, bodyOf as datalinkBodyOf, pended as datalinkPended, echoed as datalinkEchoed, newByte as datalinkNewByte, changed as datalinkChanged, appliedTo as datalinkAppliedTo, applied as datalinkApplied, acknowledged as datalinkAcknowledged, obeyed as datalinkObeyed, datalinkReply as datalinkDatalinkReply}
+use Rattle.lecom.specs.Frame.{lengthRight as lecomLengthRight, figuresRight as lecomFiguresRight, tensIn as lecomTensIn, onesIn as lecomOnesIn, collective as lecomCollective, reaches as lecomReaches, isWrite as lecomIsWrite, codeStart as lecomCodeStart, isExtended as lecomIsExtended, hexStart as lecomHexStart, codeEnd as lecomCodeEnd, codeOf as lecomCodeOf, sizeRight as lecomSizeRight, endRight as lecomEndRight, codeRight as lecomCodeRight, xorFrom as lecomXorFrom, bccOf as lecomBccOf, bccRight as lecomBccRight, pairIn as lecomPairIn, codeNumber as lecomCodeNumber, subcodeRight as lecomSubcodeRight, codeNamed as lecomCodeNamed, codeKnown as lecomCodeKnown, writable as lecomWritable, writeRight as lecomWriteRight, dataOf as lecomDataOf, dataRead as lecomDataRead, takes as lecomTakes, valueRight as lecomValueRight, valueIn as lecomValueIn, dataRight as lecomDataRight, orderIn as lecomOrderIn, heard as lecomHeard, asked as lecomAsked}
+use Rattle.lecom.specs.Answer.{valueBody as lecomValueBody, valueBytes as lecomValueBytes, unknownBytes as lecomUnknownBytes, refusalBytes as lecomRefusalBytes, doneBy as lecomDoneBy, refusedBy as lecomRefusedBy, probeAnswer as lecomProbeAnswer, readAnswer as lecomReadAnswer, activated as lecomActivated, stored as lecomStored, written as lecomWritten, obeyed as lecomObeyed, addressOf as lecomAddressOf, lecomReply as lecomLecomReply}
+use Rattle.love.specs.Frame.{forUnit as loveForUnit, checksumRight as loveChecksumRight, parameterOf as loveParameterOf, signRight as loveSignRight, numberIn as loveNumberIn, orderWrite as loveOrderWrite, orderBy as loveOrderBy, orderIn as loveOrderIn, orderHere as loveOrderHere, asked as loveAsked}
+use Rattle.love.specs.Answer.{unitOf as loveUnitOf, errorReply as loveErrorReply, normalReply as loveNormalReply, writtenField as loveWrittenField, signOf as loveSignOf, valueField as loveValueField, statusField as loveStatusField, probeField as loveProbeField, faultReply as loveFaultReply, obeyed as loveObeyed, loveReply as loveLoveReply}
 use Rattle.examples.specs.Exchanges.{Line, holds}
 use Rattle.examples.specs.Rows.{exampleCard, rows}
 
@@ -19,5 +26,5 @@ allHold [] = true
 allHold (row ∷ rest) = holds exampleCard row && allHold rest
 
 pub checked : allHold rows ≡ true
-unfolding choose overlay total sumOf inSpan allIn inMemory namesReadOnly named numRight echoable addressOf fitPending fitAddresses fitParameters fitWords fit withCode setCode dropped shell guarded iaIn commandIn numIn addressIn commandKnown kindOf kindIn namedIn isAcknowledge carried lengthRight formRight lrcRight rangeRight changeAllowed changeRight orderIn asked response iaOf shown interrogated bodyOf pended echoed newByte changed appliedTo applied acknowledged obeyed datalinkReply
+unfolding choose put overlay total sumOf inRange figureOf charOf allFigures pairByte pairOf digits sizeWithin sizeOf shortest valueFrom valueOf isNegative magnitude withSign textOf figuresOf parsedOf inSpan allIn inMemory namesReadOnly named numRight echoable addressOf fitPending fitAddresses fitParameters fitWords fit withCode setCode fullDemands keptParameters savedCopy savedRegisters dropped faulted restarted restart shell guarded tenthsOf readingOf datalinkIaIn datalinkCommandIn datalinkNumIn datalinkAddressIn datalinkCommandKnown datalinkKindOf datalinkKindIn datalinkNamedIn datalinkIsAcknowledge datalinkCarried datalinkLengthRight datalinkFormRight datalinkLrcRight datalinkRangeRight datalinkChangeAllowed datalinkChangeRight datalinkOrderIn datalinkAsked datalinkResponse datalinkIaOf datalinkShown datalinkInterrogated datalinkBodyOf datalinkPended datalinkEchoed datalinkNewByte datalinkChanged datalinkAppliedTo datalinkApplied datalinkAcknowledged datalinkObeyed datalinkDatalinkReply lecomLengthRight lecomFiguresRight lecomTensIn lecomOnesIn lecomCollective lecomReaches lecomIsWrite lecomCodeStart lecomIsExtended lecomHexStart lecomCodeEnd lecomCodeOf lecomSizeRight lecomEndRight lecomCodeRight lecomXorFrom lecomBccOf lecomBccRight lecomPairIn lecomCodeNumber lecomSubcodeRight lecomCodeNamed lecomCodeKnown lecomWritable lecomWriteRight lecomDataOf lecomDataRead lecomTakes lecomValueRight lecomValueIn lecomDataRight lecomOrderIn lecomHeard lecomAsked lecomValueBody lecomValueBytes lecomUnknownBytes lecomRefusalBytes lecomDoneBy lecomRefusedBy lecomProbeAnswer lecomReadAnswer lecomActivated lecomStored lecomWritten lecomObeyed lecomAddressOf lecomLecomReply loveForUnit loveChecksumRight loveParameterOf loveSignRight loveNumberIn loveOrderWrite loveOrderBy loveOrderIn loveOrderHere loveAsked loveUnitOf loveErrorReply loveNormalReply loveWrittenField loveSignOf loveValueField loveStatusField loveProbeField loveFaultReply loveObeyed loveLoveReply
 checked = refl

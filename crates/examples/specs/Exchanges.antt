@@ -7,16 +7,20 @@ use Rattle.card.specs.Layout.{Card}
 use Rattle.card.specs.Reply.{Reply, roomLeast}
 use Rattle.card.specs.Entries.{setCode}
 use Rattle.datalink.specs.Answer.{datalinkReply}
+use Rattle.lecom.specs.Answer.{lecomReply}
+use Rattle.love.specs.Answer.{loveReply}
 
 -- a call of the card
 pub data Call : Type 0 where
   code : ℕ → ℕ → Call
-  datalink : List ℕ → Call
+  datalink lecom love : List ℕ → Call
 
 -- its reply, with the smallest answer buffer
 abbrev pub replyTo : Card → Call → Reply
 replyTo card (code channel value) = setCode card channel value
 replyTo card (datalink f) = datalinkReply card roomLeast f
+replyTo card (lecom f) = lecomReply card roomLeast f
+replyTo card (love f) = loveReply card roomLeast f
 
 -- a call with its number and wire bytes
 pub record Line : Type 0 where

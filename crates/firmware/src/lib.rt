@@ -8,6 +8,8 @@ ghost use Rattle.card.specs.Reply.{Gave, Did};
 ghost use Rattle.card.specs.Entries.{setCode, restart};
 ghost use Rattle.card.specs.Governor.{governorOf, numberOf};
 ghost use Rattle.datalink.specs.Answer.{datalinkReply};
+ghost use Rattle.lecom.specs.Answer.{lecomReply};
+ghost use Rattle.love.specs.Answer.{loveReply};
 ghost use Rattle.image.specs.Entries.{writeImage, readImage};
 ghost use Rattle.firmware.specs.Lent.{degreesIn};
 
@@ -51,6 +53,24 @@ pub extern "C" fn nk_datalink(words: &[u32], memory: &mut [u8], pending: &mut [u
     ensures { λ r. ⌜ Gave (datalinkReply (cardOf (now (words .entry)) (now (memory .entry)) (now (pending .entry))) (length (now (answer .entry))) (now (frame .entry))) (now (answer .entry)) r (now (len .exit)) (now (words .entry)) (now (memory .exit)) (now (pending .exit)) (now (answer .exit)) ⌝ }
 {
     let given = datalink::datalink(words, memory, pending, frame, answer);
+    *len = given.len;
+    given.number
+}
+
+#[no_mangle]
+pub extern "C" fn nk_lecom(words: &mut [u32], memory: &[u8], pending: &[u8], frame: &[u8], answer: &mut [u8], len: &mut usize) -> u8
+    ensures { λ r. ⌜ Gave (lecomReply (cardOf (now (words .entry)) (now (memory .entry)) (now (pending .entry))) (length (now (answer .entry))) (now (frame .entry))) (now (answer .entry)) r (now (len .exit)) (now (words .exit)) (now (memory .entry)) (now (pending .entry)) (now (answer .exit)) ⌝ }
+{
+    let given = lecom::lecom(words, memory, pending, frame, answer);
+    *len = given.len;
+    given.number
+}
+
+#[no_mangle]
+pub extern "C" fn nk_love(words: &mut [u32], memory: &[u8], pending: &[u8], frame: &[u8], answer: &mut [u8], len: &mut usize) -> u8
+    ensures { λ r. ⌜ Gave (loveReply (cardOf (now (words .entry)) (now (memory .entry)) (now (pending .entry))) (length (now (answer .entry))) (now (frame .entry))) (now (answer .entry)) r (now (len .exit)) (now (words .exit)) (now (memory .entry)) (now (pending .entry)) (now (answer .exit)) ⌝ }
+{
+    let given = love::love(words, memory, pending, frame, answer);
     *len = given.len;
     given.number
 }

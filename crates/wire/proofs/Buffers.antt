@@ -1,18 +1,13 @@
 -- Laws of specs/Buffer.antt: an answer grows at its end. Assumes nothing.
 use mathlib.Core.Path.{_≡_, refl, sym, ap, _∙_}
-use mathlib.Core.List.{List, [], _∷_, _++_, append-assoc, append-nil}
-use Prim.Native.Nat.{ℕ, zero, suc, _+_, _-_, _≤_, _<_}
-use native.Mathlib.Nat.{add-zero, zero-add}
+use mathlib.Core.List.{List, [], _∷_, _++_, append-assoc}
+use Prim.Native.Nat.{ℕ, suc, _+_, _-_, _≤_, _<_}
+use native.Mathlib.Nat.{zero-add}
 use native.Mathlib.Numerals.{add-one}
 use native.Mathlib.Omega.{arith}
 use lib.ListN.{length, take, drop, set, getD, length-append, length-drop, length-take}
-<<<<<<< HEAD
-use lib.Seq.{take-append-seam, drop-append-add, set-append-seam, drop-drop, drop-cons, take-add, take-all, sets, sets-eq}
+use lib.Seq.{take-append-seam, drop-append-add, set-append-seam, drop-drop, drop-cons, take-add, take-all, sets, sets-eq, set-at, length-take-le}
 use Rattle.wire.specs.Buffer.{put, overlay, part}
-=======
-use lib.Seq.{take-append-seam, drop-append-add, set-append-seam, set-at, drop-drop, drop-cons, length-take-le, sets, sets-eq}
-use Rattle.wire.specs.Buffer.{put, overlay}
->>>>>>> 6fb1a835c343e22fc791734c061300ab4dac57ac
 
 pub overlay-none : (out : List ℕ) → overlay [] out ≡ out
 unfolding overlay
