@@ -21,7 +21,7 @@ ghost use Rattle.card.specs.Layout.{loveAt, loveCount, wordCount, memorySize};
 ghost use Rattle.card.specs.Tables.{loveMost};
 ghost use Rattle.card.specs.Probe.{readingOf};
 ghost use Rattle.card.specs.Reply.{Wrote, GaveWords, roomLeast};
-ghost use Rattle.love.specs.Form.{stx, ack, filterAt, tail};
+ghost use Rattle.love.specs.Form.{stx, ack, filterAt, fieldAt, tail};
 ghost use Rattle.love.specs.Frame.{asked};
 ghost use Rattle.love.specs.Answer.{unitOf, errorReply, normalReply, writtenField, signOf, valueField, statusField, probeField, addressOf, obeyed};
 
@@ -63,7 +63,7 @@ fn put_unit(out: &mut [u8], address: u32)
 
 // Writes what ends a normal reply whose data ends before index end: checksum and ACK.
 fn put_end(out: &mut [u8], end: usize) -> usize
-    requires { ⌜ (filterAt ≤ end) × (end + tail ≤ length (now out)) ⌝ }
+    requires { ⌜ (fieldAt ≤ end) × (end + tail ≤ length (now out)) ⌝ }
     ensures { λ r. ⌜ (r ≡ end + tail) × (now (out .exit) ≡ put (now (out .entry)) end (pairOf (sumOf (part (now (out .entry)) filterAt end)) ++ (ack ∷ []))) ⌝ }
 {
     let sum = wire::sum(&out[Love::FILTER..end]);
