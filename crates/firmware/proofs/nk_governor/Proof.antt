@@ -10,7 +10,7 @@ tell-requires : tie.Need-tell-requires
 tell-requires c κs = search needs
 
 returns : tie.Need-returns
-returns c = rw (← c .before .governor-reading .ensures) (c .tell .ensures)
+returns c = rw (← c .before .before .governor-reading .ensures) (c .tell .ensures)
 
 pub nk-governor-spec : {M : Type 1} → statement M
 nk-governor-spec = tie.close (tie.spec governor-reading-requires tell-requires returns)
