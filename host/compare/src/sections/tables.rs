@@ -1,19 +1,27 @@
 //! Section `tables`: every entry's answer to fit and unfit tables, channels, rooms, codes and restarts.
 
 use super::dialect::send_valid;
-use crate::card::{self, ranged_places, register_places, short_places, Place, MEMORY, MEMORY_PLACES, REGISTERS};
+use crate::card::{
+    self, ranged_places, register_places, short_places, Place, MEMORY, MEMORY_END, MEMORY_PLACES, MEMORY_START,
+    REGISTERS, WRITABLE_START,
+};
 use crate::frames::datalink::{acknowledge, writable_address, Datalink, NUM_MOST, TELLING_ADDRESSES, TELLING_NUMS};
 use crate::frames::{lecom::Lecom, love::Love, lucid::Lucid};
 use crate::frames::{love, Dialect};
 use crate::image::{Image, IMAGE};
+use crate::rng::Rng;
 use crate::writer::{Writer, ANSWER_ROOM, TELLING_ROOMS};
 
 /// Scenes of this section.
 const SCENES: usize = 8;
 /// Probe codes of one scene.
 const CODES: usize = 8;
-/// Pending kinds: both changes, none, and two that are no kind.
-const PENDING_KINDS: [u8; 5] = [1, 2, 0, 3, 255];
+/// The pending kind of a Change Bits; that of a Change is 1.
+const CHANGE_BITS_KIND: u8 = 2;
+/// Pending kinds that are no change: none, and two that are no kind.
+const NO_CHANGES: [u8; 3] = [0, 3, 255];
+/// Faults of a pending change, with none at all.
+const PENDING_FAULTS: usize = 7;
 
 /// Writes the next scene.
 pub fn scene(out: &mut Writer) {
@@ -97,17 +105,21 @@ fn limits(out: &mut Writer, turn: usize) {
     out.set_addresses();
 }
 
-/// A pending change that is fit, or unfit by one or more of its kind, address and NUM; all calls; nothing pending
-/// again.
+/// A pending change that is fit, or unfit by its kind, address or NUM; all calls; nothing pending again.
 fn pending(out: &mut Writer, turn: usize) {
-    let kind = PENDING_KINDS[turn % PENDING_KINDS.len()];
-    let fit_num = 2 * out.rng.below(usize::from(NUM_MOST) / 2 + 1) as u8;
-    let telling_num = out.rng.pick(&TELLING_NUMS);
-    let num = out.rng.pick(&[fit_num, fit_num, telling_num]);
-    let named = if kind == 2 { num / 2 } else { num };
-    let fit_address = writable_address(&mut out.rng, named);
-    let telling_address = out.rng.pick(&TELLING_ADDRESSES);
-    let address = out.rng.pick(&[fit_address, fit_address + 1, telling_address]);
+    let case = turn % (2 * PENDING_FAULTS + NO_CHANGES.len());
+    let (kind, address, num) = match NO_CHANGES.get(case) {
+        Some(&kind) => {
+            let (address, num) = change_with(&mut out.rng, kind, 0);
+            (kind, address, num)
+        }
+        None => {
+            let kind = 1 + (case % 2) as u8;
+            let fault = (case - NO_CHANGES.len()) / 2;
+            let (address, num) = change_with(&mut out.rng, kind, fault);
+            (kind, address, num)
+        }
+    };
     out.set_pending(kind, address, num);
     out.peek(false);
     if out.rng.chance(50) {
@@ -118,6 +130,22 @@ fn pending(out: &mut Writer, turn: usize) {
     out.set_pending(0, 0, 0);
     out.peek(false);
     reading(out);
+}
+
+/// The address and NUM of a change with the fault of this number below [`PENDING_FAULTS`], of which 0 is none.
+fn change_with(rng: &mut Rng, kind: u8, fault: usize) -> (u16, u8) {
+    let num = 2 + 2 * rng.below(usize::from(NUM_MOST) / 2) as u8;
+    let named = if kind == CHANGE_BITS_KIND { num / 2 } else { num };
+    let address = writable_address(rng, named);
+    match fault {
+        0 => (address, num),
+        1 => (address, num - 1),
+        2 => (WRITABLE_START, rng.pick(&[NUM_MOST + 1, NUM_MOST + 2, 255])),
+        3 => (rng.pick(&[MEMORY_START, WRITABLE_START - 1]), num),
+        4 => (MEMORY_END - u16::from(named) + 1, num),
+        5 => (rng.pick(&[0, MEMORY_START - 1]), rng.pick(&[0, num])),
+        _ => (rng.pick(&TELLING_ADDRESSES), rng.pick(&TELLING_NUMS)),
+    }
 }
 
 /// Every channel number from 0 to 255.
