@@ -4,12 +4,14 @@ use mathlib.Core.Bool.{Bool, true, false}
 use mathlib.Core.List.{List, [], _∷_}
 use Prim.Native.Nat.{ℕ, zero, suc, _+_, _-_, _*_, _/_, _%_, _≤_, _<_}
 use native.Mathlib.Nat.{add-zero}
+use native.Mathlib.Numerals.{add-one}
 use native.Mathlib.Omega.{arith}
-use borrow.Author.Tests.{eqb-true, eqb-false}
+use borrow.Author.Tests.{eqb-true, eqb-false, eq-eqb, ne-eqb}
 use lib.Dec.{eqb}
 use lib.ListN.{length}
 use Rattle.wire.specs.Choose.{choose}
-use Rattle.wire.proofs.Cases.{by-choice}
+use Rattle.wire.proofs.Cases.{by-choice, yes, no}
+use Rattle.card.specs.Layout.{channels}
 use Rattle.lucid.specs.Form.{channelsFrom, channelsOf}
 
 -- one bit more
@@ -34,3 +36,26 @@ count-channels mask =
     (length-next 2 1 (mask / 2) ∙ rw quarter)
     (length-next 1 2 (mask / 4) ∙ rw eighth)
     (length-next 0 3 (mask / 8) ∙ add-zero (mask / 8 % 2))
+
+-- the channels still to come, from a channel on whose bit is the lowest one left
+abbrev pub channelsLeft : ℕ → ℕ → List ℕ
+channelsLeft channel left = channelsFrom (channels - channel) channel left
+
+module _ (channel left : ℕ) (h : channel < channels) where
+  one-fewer : channels - channel ≡ suc (channels - (channel + 1))
+  one-fewer = omega arith
+
+  -- the channel is named
+  pub channels-named : left % 2 ≡ 1 → channelsLeft channel left ≡ channel ∷ channelsLeft (channel + 1) (left / 2)
+  unfolding channelsFrom
+  channels-named e = rw (one-fewer, add-one) (sym (yes _ _ _ _ (eq-eqb (left % 2) 1 e) refl))
+
+  -- it is not
+  pub channels-passed : (left % 2 ≡ 1 → ⊥) → channelsLeft channel left ≡ channelsLeft (channel + 1) (left / 2)
+  unfolding channelsFrom
+  channels-passed n = rw (one-fewer, add-one) (sym (no _ _ _ _ (ne-eqb (left % 2) 1 n) refl))
+
+-- none is left after the last
+pub channels-done : (channel left : ℕ) → channels ≤ channel → channelsLeft channel left ≡ []
+unfolding channelsFrom
+channels-done channel left h = let e : channels - channel ≡ 0 = omega arith in rw e

@@ -43,10 +43,15 @@ module _ (opc p1 p2 : ℕ) where
     pub value-within : hasValue opc p2 ≡ true → fieldAt + addressSize + parameterSize ≤ length f
     value-within h = omega (arith, len-value h)
 
+    -- a command that is neither a get nor a set of values names a channel
+    pub single-channel : isGet opc ≡ false → isSet opc ≡ false → p1 < channels
+    single-channel g s =
+        let group : isGroup opc ≡ false = rw (or-false (eqb opc getIo) _ g .1, or-false (eqb opc setIo) _ s .1) in
+        ltb-true p1 channels (or-right _ _ (sized .channel) group)
+
     -- a command on parameters that resets nothing
     pub parameter-within : isGet opc ≡ false → isSet opc ≡ false → isReset opc p2 ≡ false
         → (p1 < channels) × ((fieldAt + addressSize ≤ length f) × ((opc ≡ getParam → ⊥) → fieldAt + addressSize + parameterSize ≤ length f))
     parameter-within g s r =
         let param : isParam opc ≡ true = or-right _ _ (or-right _ _ (sized .known) g) s in
-        let group : isGroup opc ≡ false = rw (or-false (eqb opc getIo) _ g .1, or-false (eqb opc setIo) _ s .1) in
-        (ltb-true p1 channels (or-right _ _ (sized .channel) group), (address-within (both-but _ _ param r), λ n. value-within (both-but _ _ (or-left (eqb opc setParam) _ param (ne-eqb opc getParam n)) r)))
+        (single-channel g s, (address-within (both-but _ _ param r), λ n. value-within (both-but _ _ (or-left (eqb opc setParam) _ param (ne-eqb opc getParam n)) r)))

@@ -77,8 +77,17 @@ tenths = 0x40
 abbrev pub hundredths : ℕ
 hundredths = 0x41
 
+abbrev pub demandSize : ℕ
+demandSize = 2
+
+abbrev pub tenthsSize : ℕ
+tenthsSize = 2
+
+abbrev pub hundredthsSize : ℕ
+hundredthsSize = 4
+
 unfoldable pub sizeOf : ℕ → ℕ
-sizeOf kind = choose (eqb kind hundredths) 4 2
+sizeOf kind = choose (eqb kind demand) demandSize (choose (eqb kind tenths) tenthsSize hundredthsSize)
 
 -- P2 of SetParam: its option bits, and those that are none
 abbrev pub default : ℕ

@@ -94,9 +94,12 @@ impl Lucid {
     pub fn size(kind: u8) -> u8
         ensures { λ r. ⌜ (r ≡ sizeOf kind) × (r ≤ 4) ⌝ }
     {
-        if kind == Lucid::HUNDREDTHS {
-            return Lucid::HUNDREDTHS_SIZE;
+        if kind == Lucid::DEMAND {
+            return Lucid::DEMAND_SIZE;
         }
-        Lucid::TENTHS_SIZE
+        if kind == Lucid::TENTHS {
+            return Lucid::TENTHS_SIZE;
+        }
+        Lucid::HUNDREDTHS_SIZE
     }
 }
