@@ -1,0 +1,108 @@
+-- What is known of a frame from what it was judged to ask: places within their tables, data of the right length. Assumes nothing.
+use mathlib.Core.Path.{_≡_, refl, sym, ap, _∙_, subst}
+use mathlib.Core.Bool.{Bool, true, false, not}
+use mathlib.Core.List.{List}
+use Prim.{Unit, tt}
+use Prim.Native.Nat.{ℕ, _+_, _*_, _≤_, _<_}
+use native.Mathlib.Omega.{arith}
+use borrow.Author.Tests.{eqb-true, eq-eqb, not-true}
+use lib.Dec.{eqb}
+use lib.ListN.{length}
+use Rattle.wire.specs.Choose.{choose}
+use Rattle.wire.proofs.Cases.{by-choice, yes, no}
+use Rattle.card.specs.Layout.{channels, parameterCount}
+use Rattle.lucid.specs.Form.{fieldAt, channelsOf, demand, demandSize, sizeOf}
+use Rattle.lucid.specs.Frame.{
+  isGet,
+  isSet,
+  isReset,
+  saves,
+  opcKnown,
+  channelRight,
+  maskRight,
+  typeKnown,
+  typeWritable,
+  optionRight,
+  maskOf,
+  lenFor,
+  addressIn,
+  addressKnown,
+  valueRight,
+  placeOf,
+  parameterOrder,
+  orderOf,
+  parameterAsked,
+  optionAsked,
+  askedOf,
+  opcIn,
+  p1In,
+  p2In,
+  lenIn,
+  Sized,
+}
+use Rattle.lucid.specs.declared.frame.Asked.{Asked}
+use Rattle.lucid.specs.declared.frame.Asked.the-variants.{Refused, GetIo, SetIo, GetParam, SetParam, Reset}
+use Rattle.lucid.proofs.Bools.{or-right}
+use Rattle.lucid.proofs.Lengths.{single-channel}
+
+abbrev pub Safe : List ℕ → Asked → Type 0
+Safe f (Refused number status) = Unit {0}
+Safe f (GetIo kind mask) = Unit {0}
+Safe f (SetIo mask) = length f ≡ fieldAt + demandSize * length (channelsOf mask)
+Safe f (GetParam place) = place < parameterCount
+Safe f (SetParam place saved value) = place < parameterCount
+Safe f (Reset channel saved) = channel < channels
+
+place-within : (channel address : ℕ) → channel < channels → placeOf channel address < parameterCount
+unfolding placeOf
+place-within channel address h = by-choice (λ (n : ℕ). n < parameterCount) _ _ _ (λ _. omega arith) (λ _. omega arith)
+
+module _ (f : List ℕ) where
+  -- a test, of which the other way is a refusal
+  or-refused : (t : Bool) (asked : Asked) (number status : ℕ) → (t ≡ true → Safe f asked) → Safe f (choose t asked (Refused number status))
+  or-refused t asked number status p = by-choice (Safe f) t asked (Refused number status) p (λ _. tt)
+
+  module _ (opc p1 p2 : ℕ) (sized : Sized opc p1 p2 f) where
+    -- SetIo and SetIoGroup have two bytes for each channel
+    set-length : typeWritable opc p2 ≡ true → isGet opc ≡ false → isSet opc ≡ true → length f ≡ fieldAt + demandSize * length (channelsOf (maskOf opc p1))
+    unfolding lenFor sizeOf
+    set-length w g s =
+        let kind = or-right (not (isSet opc)) _ w (ap not s) in
+        let size = yes (eqb p2 demand) demandSize _ _ kind refl in
+        let len = no (isGet opc) _ _ _ g (yes (isSet opc) (sizeOf p2 * length (channelsOf (maskOf opc p1))) _ _ s refl) in
+        sized .measured ∙ ap (λ (n : ℕ). fieldAt + n) (sym len ∙ ap (λ (n : ℕ). n * length (channelsOf (maskOf opc p1))) (sym size))
+
+    safe-order : typeWritable opc p2 ≡ true → Safe f (orderOf opc p1 p2 f)
+    unfolding orderOf parameterOrder
+    safe-order w =
+        by-choice (Safe f) (isGet opc) _ _ (λ _. tt)
+        (λ g. by-choice (Safe f) (isSet opc) _ _ (λ s. set-length w g s)
+        (λ s.
+        let h = single-channel opc p1 p2 f sized g s in
+        by-choice (Safe f) (isReset opc p2) _ _ (λ _. h)
+        (λ _. by-choice (Safe f) _ _ _ (λ _. place-within p1 (addressIn f) h) (λ _. place-within p1 (addressIn f) h))))
+
+    safe-parameter : typeWritable opc p2 ≡ true → Safe f (parameterAsked opc p1 p2 f)
+    unfolding parameterAsked
+    safe-parameter w = or-refused _ _ _ _ (λ _. or-refused _ _ _ _ (λ _. safe-order w))
+
+  safe-option : (opc p1 p2 : ℕ) → opcKnown opc ≡ true → channelRight opc p1 ≡ true → length f ≡ fieldAt + lenIn f → Safe f (optionAsked opc p1 p2 f)
+  unfolding optionAsked
+  safe-option opc p1 p2 known channel l =
+      or-refused _ _ _ _
+      (λ _. or-refused (typeWritable opc p2) _ _ _
+      (λ w. or-refused _ _ _ _
+      (λ _. or-refused (eqb (lenIn f) (lenFor opc p1 p2)) _ _ _
+      (λ e. safe-parameter opc p1 p2 (record { known = known; channel = channel; measured = l ∙ ap (λ (n : ℕ). fieldAt + n) (eqb-true (lenIn f) (lenFor opc p1 p2) e) }) w))))
+
+  pub safe : Safe f (askedOf f)
+  unfolding askedOf
+  safe =
+      or-refused (eqb (length f) (fieldAt + lenIn f)) _ _ _
+      (λ l. or-refused (opcKnown (opcIn f)) _ _ _
+      (λ k. or-refused (channelRight (opcIn f) (p1In f)) _ _ _
+      (λ h. or-refused _ _ _ _ (λ _. safe-option (opcIn f) (p1In f) (p2In f) k h (eqb-true (length f) (fieldAt + lenIn f) l)))))
+
+  -- the same of what it was found to ask
+  pub known : (asked : Asked) → askedOf f ≡ asked → Safe f asked
+  known asked e = subst (Safe f) e safe

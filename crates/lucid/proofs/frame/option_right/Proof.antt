@@ -1,0 +1,13 @@
+-- `lucid::frame::option_right` meets its contract. Assumes nothing.
+use borrow.Author.Needs.{needs}
+use Rattle.lucid.proofs.frame.option_right.Statement.{statement}
+use Rattle.lucid.proofs.frame.option_right.Tie as tie
+
+is-param-requires : tie.Need-is-param-requires
+is-param-requires c κs = search needs
+
+returns : tie.Need-returns
+returns c = cc
+
+pub option-right-spec : {M : Type 1} → statement M
+option-right-spec = tie.close (tie.spec is-param-requires returns)

@@ -1,0 +1,29 @@
+-- `lucid::frame::value_in` meets its contract. Assumes nothing.
+use Rattle.lucid.specs.Form.{numberAt}
+use native.Mathlib.Omega.{arith}
+use borrow.Author.Needs.{needs}
+use Rattle.lucid.proofs.frame.value_in.Statement.{statement}
+use Rattle.lucid.proofs.frame.value_in.Tie as tie
+
+pair-requires : tie.Need-pair-requires
+pair-requires c κs = search needs
+
+add-pair : tie.Need-add-pair
+add-pair c = search needs
+
+pair-requires-2 : tie.Need-pair-requires-2
+pair-requires-2 c κs = search needs
+
+mul-result : tie.Need-mul-result
+mul-result c = search needs
+
+add-result : tie.Need-add-result
+add-result c = search needs
+
+returns : tie.Need-returns
+unfolding numberAt
+returns c = omega arith
+
+pub value-in-spec : {M : Type 1} → statement M
+value-in-spec =
+    tie.close (tie.spec pair-requires add-pair pair-requires-2 mul-result add-result returns)

@@ -1,0 +1,119 @@
+-- What the card answers to a LucidControl frame, and what its words become. Document 01, "LucidControl".
+use Prim.Native.Nat.{ℕ, _+_, _*_, _%_}
+use mathlib.Core.Path.{_≡_}
+use mathlib.Core.Bool.{Bool}
+use mathlib.Core.List.{List, [], _∷_, _++_}
+use lib.Dec.{eqb}
+use lib.ListN.{length, getD, set, take}
+use Rattle.wire.specs.Choose.{choose}
+use Rattle.wire.specs.Word.{wordValues}
+use Rattle.card.specs.Numbers.{answered, frameForm, probeFault}
+use Rattle.card.specs.Layout.{Card, demandsAt, parametersAt, keptAt}
+use Rattle.card.specs.Probe.{readingOf}
+use Rattle.card.specs.Reply.{Reply, WordsReply, onWords, roomLeast, shell}
+use Rattle.card.specs.declared.probe.Tenths.{Tenths}
+use Rattle.card.specs.declared.probe.Reading.{Reading}
+use Rattle.card.specs.declared.probe.Reading.the-variants.{Temperature, Fault}
+use Rattle.lucid.specs.Form.{fits, fieldAt, channelsOf, demand, tenths, demandSize, tenthsSize, hundredthsSize, parameterSize, ok, errExecution, little, numberAt}
+use Rattle.lucid.specs.Frame.{askedOf}
+use Rattle.lucid.specs.declared.answer.Hundredths.{Hundredths}
+use Rattle.lucid.specs.declared.frame.Asked.{Asked}
+use Rattle.lucid.specs.declared.frame.Asked.the-variants.{Refused, GetIo, SetIo, GetParam, SetParam, Reset}
+
+-- what is read of channels: the bytes of their values one after another, or a failed probe
+pub data Values : Type 0 where
+  Held : List ℕ → Values
+  Failed : Values
+
+-- "One failed probe refuses a whole group"
+unfoldable pub joined : Values → Values → Values
+joined (Held a) (Held b) = Held (a ++ b)
+joined (Held a) Failed = Failed
+joined Failed rest = Failed
+
+-- the values of channels, in their order
+unfoldable pub group : (ℕ → Values) → List ℕ → Values
+group value [] = Held []
+group value (k ∷ ks) = joined (value k) (group value ks)
+
+-- hundredths of a degree are ten times the tenths, as a word
+unfoldable pub hundredthsOf : Tenths → Hundredths
+hundredthsOf t = record { 0 = 10 * t .0 % wordValues }
+
+-- a temperature in type 40h, else 41h
+unfoldable pub temperatureIn : ℕ → Tenths → List ℕ
+temperatureIn kind t = choose (eqb kind tenths) (little tenthsSize (t .0)) (little hundredthsSize (hundredthsOf t .0))
+
+-- "In every probe reading a temperature is taken out of the reading, or the fault is answered"
+unfoldable pub readingIn : ℕ → Reading → Values
+readingIn kind (Temperature t) = Held (temperatureIn kind t)
+readingIn kind Fault = Failed
+
+-- the value of a channel: its demand in type 10h, else its probe
+unfoldable pub valueOf : List ℕ → List ℕ → ℕ → ℕ → Values
+valueOf ws memory kind channel =
+    choose (eqb kind demand) (Held (little demandSize (getD ws (demandsAt + channel) 0))) (readingIn kind (readingOf (getD memory channel 0)))
+
+-- "answer: status, LEN, data"
+abbrev pub answerOf : ℕ → List ℕ → List ℕ
+answerOf status bytes = status ∷ length bytes ∷ bytes
+
+-- a number with an answer; the words as they then stand
+abbrev pub told : ℕ → ℕ → List ℕ → List ℕ → WordsReply
+told number status bytes ws = record { number = number; bytes = answerOf status bytes; words = ws }
+
+-- "A refusal answers its status and LEN 0"
+abbrev pub refused : ℕ → ℕ → List ℕ → WordsReply
+refused number status ws = told number status [] ws
+
+-- a command that was done and gives no data
+abbrev pub done : List ℕ → WordsReply
+done ws = told answered ok [] ws
+
+-- the answer to GetIo and GetIoGroup; "fault (9, D0h)"
+unfoldable pub read : List ℕ → Values → WordsReply
+read ws (Held bytes) = told answered ok bytes ws
+read ws Failed = refused probeFault errExecution ws
+
+-- the words with the demands of channels set, in their order, from the frame's bytes at an index on
+unfoldable pub demanded : List ℕ → List ℕ → ℕ → List ℕ → List ℕ
+demanded [] f at ws = ws
+demanded (channel ∷ rest) f at ws = demanded rest f (at + demandSize) (set ws (demandsAt + channel) (numberAt demandSize f at))
+
+-- the words with a parameter set; "Option 80h also sets the saved copy"
+unfoldable pub stored : ℕ → Bool → ℕ → List ℕ → List ℕ
+stored place saved value ws =
+    choose saved (set (set ws (parametersAt + place) value) (keptAt + place) value) (set ws (parametersAt + place) value)
+
+-- the defaults of 1110h and 1120h
+abbrev pub cycleDefault : ℕ
+cycleDefault = 1000000
+
+abbrev pub floorDefault : ℕ
+floorDefault = 0
+
+-- "Option 01h .. resets both parameters of the channel"
+unfoldable pub reset : ℕ → Bool → List ℕ → List ℕ
+reset channel saved ws = stored (2 * channel + 1) saved floorDefault (stored (2 * channel) saved cycleDefault ws)
+
+-- what the card does with what is asked
+unfoldable pub obeyed : List ℕ → List ℕ → List ℕ → Asked → WordsReply
+obeyed ws memory f (Refused number status) = refused number status ws
+obeyed ws memory f (GetIo kind mask) = read ws (group (valueOf ws memory kind) (channelsOf mask))
+obeyed ws memory f (SetIo mask) = done (demanded (channelsOf mask) f fieldAt ws)
+obeyed ws memory f (GetParam place) = told answered ok (little parameterSize (getD ws (parametersAt + place) 0)) ws
+obeyed ws memory f (SetParam place saved value) = done (stored place saved value ws)
+obeyed ws memory f (Reset channel saved) = done (reset channel saved ws)
+
+-- what the card does with a frame; one shorter than the shortest or longer than the longest is 3, silent
+unfoldable pub lucidWords : List ℕ → List ℕ → List ℕ → WordsReply
+lucidWords ws memory f = choose (fits (length f)) (obeyed ws memory f (askedOf f)) (record { number = frameForm; bytes = []; words = ws })
+
+-- the entry's whole meaning; room is the answer buffer's length
+unfoldable pub lucidReply : Card → ℕ → List ℕ → Reply
+lucidReply card room f = shell roomLeast card room (onWords card (lucidWords (card .words) (card .memory) f))
+
+-- bytes were put at the end of the n bytes held so far
+pub record Grew (bytes values : List ℕ) (n len : ℕ) (values′ : List ℕ) : Type 0 where
+  pub counted : len ≡ n + length bytes
+  pub held : take len values′ ≡ take n values ++ bytes

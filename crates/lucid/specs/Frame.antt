@@ -1,0 +1,202 @@
+-- What a LucidControl frame asks, in the order of document 01, "LucidControl": a line of an order is a test, and the number and the
+-- status if it fails. A test that a command has no use for passes. The last of the order, the fault, is found in answering.
+use Prim.Native.Nat.{ℕ, _+_, _*_, _^_}
+use mathlib.Core.Path.{_≡_}
+use mathlib.Core.Bool.{Bool, true, _&&_, _||_, not}
+use mathlib.Core.List.{List}
+use lib.Bits.{bitAnd}
+use lib.Dec.{leb, ltb, eqb}
+use lib.ListN.{length, getD}
+use Rattle.wire.specs.Choose.{choose}
+use Rattle.card.specs.Numbers.{frameForm, commandUnknown, rangeUnknown, valueOutside, readOnly}
+use Rattle.card.specs.Layout.{channels}
+use Rattle.card.specs.Tables.{inSpan, cycleLeast, cycleMost, floorMost}
+use Rattle.lucid.specs.Form.{
+  opcAt,
+  p1At,
+  p2At,
+  lenAt,
+  fieldAt,
+  getIo,
+  getIoGroup,
+  setIo,
+  setIoGroup,
+  setParam,
+  getParam,
+  maskMost,
+  channelsOf,
+  demand,
+  tenths,
+  hundredths,
+  sizeOf,
+  default,
+  persistent,
+  otherBits,
+  cycleAddress,
+  floorAddress,
+  addressSize,
+  parameterSize,
+  noSupport,
+  invLength,
+  invP1,
+  invP2,
+  invValue,
+  invChannel,
+  invParam,
+  invData,
+  numberAt,
+}
+use Rattle.lucid.specs.declared.frame.Asked.{Asked}
+use Rattle.lucid.specs.declared.frame.Asked.the-variants.{Refused, GetIo, SetIo, GetParam, SetParam, Reset}
+
+-- a test, and the number and the status if it fails
+abbrev pub unless : Bool → ℕ → ℕ → Asked → Asked
+unless test number status rest = choose test rest (Refused number status)
+
+-- the fields of a frame
+abbrev pub opcIn : List ℕ → ℕ
+opcIn f = getD f opcAt 0
+
+abbrev pub p1In : List ℕ → ℕ
+p1In f = getD f p1At 0
+
+abbrev pub p2In : List ℕ → ℕ
+p2In f = getD f p2At 0
+
+abbrev pub lenIn : List ℕ → ℕ
+lenIn f = getD f lenAt 0
+
+-- GetIo and GetIoGroup; SetIo and SetIoGroup; the two groups
+abbrev pub isGet : ℕ → Bool
+isGet opc = eqb opc getIo || eqb opc getIoGroup
+
+abbrev pub isSet : ℕ → Bool
+isSet opc = eqb opc setIo || eqb opc setIoGroup
+
+abbrev pub isGroup : ℕ → Bool
+isGroup opc = eqb opc getIoGroup || eqb opc setIoGroup
+
+-- SetParam and GetParam
+abbrev pub isParam : ℕ → Bool
+isParam opc = eqb opc setParam || eqb opc getParam
+
+-- SetParam with option 01h
+abbrev pub isReset : ℕ → ℕ → Bool
+isReset opc p2 = eqb opc setParam && not (eqb (bitAnd p2 default) 0)
+
+-- option 80h: the saved copy is set too
+abbrev pub saves : ℕ → Bool
+saves p2 = not (eqb (bitAnd p2 persistent) 0)
+
+-- "OPC (5, A0h)"
+abbrev pub opcKnown : ℕ → Bool
+opcKnown opc = isGet opc || (isSet opc || isParam opc)
+
+-- "channel above 3 (6, B8h)"
+abbrev pub channelRight : ℕ → ℕ → Bool
+channelRight opc p1 = isGroup opc || ltb p1 channels
+
+-- "mask 0 or above 0Fh (6, B2h)"
+abbrev pub maskRight : ℕ → ℕ → Bool
+maskRight opc p1 = not (isGroup opc) || (leb 1 p1 && leb p1 maskMost)
+
+-- "type unknown (7, B6h)"
+abbrev pub typeKnown : ℕ → ℕ → Bool
+typeKnown opc p2 = isParam opc || (eqb p2 demand || (eqb p2 tenths || eqb p2 hundredths))
+
+-- "probe written (8, B6h)"
+abbrev pub typeWritable : ℕ → ℕ → Bool
+typeWritable opc p2 = not (isSet opc) || eqb p2 demand
+
+-- "option other than bits 01h and 80h, or nonzero in GetParam (7, B4h)"
+abbrev pub optionRight : ℕ → ℕ → Bool
+optionRight opc p2 = not (isParam opc) || (eqb p2 0 || (eqb opc setParam && eqb (bitAnd p2 otherBits) 0))
+
+-- the mask of the channels that a command on values names: P1 of a group, else the bit of channel P1
+unfoldable pub maskOf : ℕ → ℕ → ℕ
+maskOf opc p1 = choose (isGroup opc) p1 (2 ^ p1)
+
+-- "LEN is 0 for GetIo and GetIoGroup, the type's size for SetIo, that times the channels for SetIoGroup, 2 for GetParam, 6 for SetParam. ..
+-- Option 01h takes LEN 0"
+unfoldable pub lenFor : ℕ → ℕ → ℕ → ℕ
+lenFor opc p1 p2 =
+    choose (isGet opc) 0
+    (choose (isSet opc) (sizeOf p2 * length (channelsOf (maskOf opc p1)))
+    (choose (eqb opc getParam) addressSize
+    (choose (isReset opc p2) 0
+    (addressSize + parameterSize))))
+
+-- the frame's data begin with an address; a value follows it
+abbrev pub hasAddress : ℕ → ℕ → Bool
+hasAddress opc p2 = isParam opc && not (isReset opc p2)
+
+abbrev pub hasValue : ℕ → ℕ → Bool
+hasValue opc p2 = eqb opc setParam && not (isReset opc p2)
+
+-- the address and the value of a frame that has them
+abbrev pub addressIn : List ℕ → ℕ
+addressIn f = numberAt addressSize f fieldAt
+
+abbrev pub valueIn : List ℕ → ℕ
+valueIn f = numberAt parameterSize f (fieldAt + addressSize)
+
+-- "parameter address (6, BAh)"
+unfoldable pub addressKnown : ℕ → ℕ → List ℕ → Bool
+addressKnown opc p2 f = choose (hasAddress opc p2) (eqb (addressIn f) cycleAddress || eqb (addressIn f) floorAddress) true
+
+-- a value in the range of the parameter at an address
+unfoldable pub inRange : ℕ → ℕ → Bool
+inRange address value = choose (eqb address cycleAddress) (inSpan cycleLeast cycleMost value) (inSpan 0 floorMost value)
+
+-- "value (7, C0h)"
+unfoldable pub valueRight : ℕ → ℕ → List ℕ → Bool
+valueRight opc p2 f = choose (hasValue opc p2) (inRange (addressIn f) (valueIn f)) true
+
+-- a parameter's place among the card's: channel by channel, 1110h first
+unfoldable pub placeOf : ℕ → ℕ → ℕ
+placeOf channel address = choose (eqb address cycleAddress) (2 * channel) (2 * channel + 1)
+
+-- what a frame that passed every test asks
+unfoldable pub parameterOrder : ℕ → ℕ → ℕ → List ℕ → Asked
+parameterOrder opc p1 p2 f =
+    choose (eqb opc getParam) (GetParam (placeOf p1 (addressIn f)))
+    (SetParam (placeOf p1 (addressIn f)) (saves p2) (valueIn f))
+
+unfoldable pub orderOf : ℕ → ℕ → ℕ → List ℕ → Asked
+orderOf opc p1 p2 f =
+    choose (isGet opc) (GetIo p2 (maskOf opc p1))
+    (choose (isSet opc) (SetIo (maskOf opc p1))
+    (choose (isReset opc p2) (Reset p1 (saves p2))
+    (parameterOrder opc p1 p2 f)))
+
+-- "parameter address (6, BAh); value (7, C0h)"
+unfoldable pub parameterAsked : ℕ → ℕ → ℕ → List ℕ → Asked
+parameterAsked opc p1 p2 f =
+    unless (addressKnown opc p2 f) rangeUnknown invParam
+    (unless (valueRight opc p2 f) valueOutside invData
+    (orderOf opc p1 p2 f))
+
+-- "type unknown (7, B6h), probe written (8, B6h), option .. (7, B4h); LEN for the command (3, B0h)"
+unfoldable pub optionAsked : ℕ → ℕ → ℕ → List ℕ → Asked
+optionAsked opc p1 p2 f =
+    unless (typeKnown opc p2) valueOutside invValue
+    (unless (typeWritable opc p2) readOnly invValue
+    (unless (optionRight opc p2) valueOutside invP2
+    (unless (eqb (lenIn f) (lenFor opc p1 p2)) frameForm invLength
+    (parameterAsked opc p1 p2 f))))
+
+-- what a frame asks, if its length is that of a frame.
+-- "LEN against slice (3, B0h); OPC (5, A0h); channel above 3 (6, B8h) or mask 0 or above 0Fh (6, B2h)"
+unfoldable pub askedOf : List ℕ → Asked
+askedOf f =
+    unless (eqb (length f) (fieldAt + lenIn f)) frameForm invLength
+    (unless (opcKnown (opcIn f)) commandUnknown noSupport
+    (unless (channelRight (opcIn f) (p1In f)) rangeUnknown invChannel
+    (unless (maskRight (opcIn f) (p1In f)) rangeUnknown invP1
+    (optionAsked (opcIn f) (p1In f) (p2In f) f))))
+
+-- what is known of a frame once its LEN was found right for its command
+pub record Sized (opc p1 p2 : ℕ) (f : List ℕ) : Type 0 where
+  pub known : opcKnown opc ≡ true
+  pub channel : channelRight opc p1 ≡ true
+  pub measured : length f ≡ fieldAt + lenFor opc p1 p2

@@ -1,0 +1,227 @@
+// What the card answers to a LucidControl frame, and what its words become. Document 01, "LucidControl".
+use crate::form::Lucid;
+use crate::frame::Asked;
+use crate::frame::judge;
+use crate::frame::pair;
+use card::Outcome;
+use card::layout::CHANNELS;
+use card::layout::DEMANDS;
+use card::layout::KEPT;
+use card::layout::PARAMETERS;
+use card::numbers::ANSWERED;
+use card::numbers::FRAME_FORM;
+use card::numbers::PROBE_FAULT;
+use card::probe::Reading;
+use card::probe::Tenths;
+use card::probe::read_code;
+ghost use mathlib.Core.Path.{_≡_};
+ghost use mathlib.Core.List.{[]};
+ghost use Prim.Native.Nat.{_+_, _*_, _≤_, _<_};
+ghost use lib.ListN.{length, take, getD};
+ghost use Rattle.card.specs.Numbers.{answered};
+ghost use Rattle.card.specs.Layout.{channels, parameterCount, parametersAt, wordCount, memorySize};
+ghost use Rattle.card.specs.Reply.{roomLeast, Wrote, GaveWords};
+ghost use Rattle.lucid.specs.Form.{fieldAt, channelsOf, demandSize, tenthsSize, hundredthsSize, parameterSize, ok, little};
+ghost use Rattle.lucid.specs.Answer.{group, hundredthsOf, temperatureIn, valueOf, answerOf, read, demanded, stored, reset, lucidWords, Grew};
+
+// The most bytes of data that an answer has: four channels in type 41h.
+const VALUES: usize = 16;
+
+// The defaults of 1110h and 1120h. Document 01, "What the card holds".
+const CYCLE_DEFAULT: u32 = 1_000_000;
+
+const FLOOR_DEFAULT: u32 = 0;
+
+const WORD_VALUES: u64 = 0x1_0000_0000;
+
+const HUNDREDTHS_PER_TENTH: u64 = 10;
+
+// Hundredths of a degree, in two's complement.
+pub struct Hundredths(pub u32);
+
+impl Hundredths {
+    // The only way from tenths to hundredths.
+    pub fn of(t: Tenths) -> Hundredths
+        ensures { λ r. ⌜ r ≡ hundredthsOf t ⌝ }
+    {
+        Hundredths((HUNDREDTHS_PER_TENTH * t.0 as u64 % WORD_VALUES) as u32)
+    }
+}
+
+// Writes status, LEN and the first len bytes of values.
+fn respond(out: &mut [u8], number: u8, status: u8, values: &[u8], len: usize) -> Outcome
+    requires { ⌜ (len ≤ length (now values)) × ((length (now values) ≤ 16) × (roomLeast ≤ length (now out))) ⌝ }
+    ensures { λ r. ⌜ (r .number ≡ number) × Wrote (answerOf status (take len (now (values .entry)))) (now (out .entry)) (r .len) (now (out .exit)) ⌝ }
+{
+    out[0] = status;
+    out[1] = len as u8;
+    wire::copy(&values[..len], out, Lucid::HEAD);
+    Outcome {
+        number,
+        len: Lucid::HEAD + len,
+    }
+}
+
+// Writes the low bytes of a word after the n bytes held so far, lowest first.
+fn put_little(word: u32, size: usize, values: &mut [u8], n: usize) -> usize
+    requires { ⌜ n + size ≤ length (now values) ⌝ }
+    ensures { λ r. ⌜ Grew (little size word) (now (values .entry)) n r (now (values .exit)) ⌝ }
+{
+    let mut left = word;
+    let mut i = 0;
+    while i < size {
+        values[n + i] = (left % 256) as u8;
+        left = left / 256;
+        i += 1;
+    }
+    n + size
+}
+
+// A status with LEN 0.
+fn tell(out: &mut [u8], number: u8, status: u8) -> Outcome
+    requires { ⌜ roomLeast ≤ length (now out) ⌝ }
+    ensures { λ r. ⌜ (r .number ≡ number) × Wrote (answerOf status []) (now (out .entry)) (r .len) (now (out .exit)) ⌝ }
+{
+    let values = [0u8; VALUES];
+    respond(out, number, status, &values, 0)
+}
+
+// A value of type 40h.
+fn put_tenths(t: Tenths, values: &mut [u8], n: usize) -> usize
+    requires { ⌜ n + tenthsSize ≤ length (now values) ⌝ }
+    ensures { λ r. ⌜ Grew (little tenthsSize (t .0)) (now (values .entry)) n r (now (values .exit)) ⌝ }
+{
+    put_little(t.0, Lucid::TENTHS_SIZE as usize, values, n)
+}
+
+// A value of type 41h.
+fn put_hundredths(h: Hundredths, values: &mut [u8], n: usize) -> usize
+    requires { ⌜ n + hundredthsSize ≤ length (now values) ⌝ }
+    ensures { λ r. ⌜ Grew (little hundredthsSize (h .0)) (now (values .entry)) n r (now (values .exit)) ⌝ }
+{
+    put_little(h.0, Lucid::HUNDREDTHS_SIZE as usize, values, n)
+}
+
+// A temperature in the type asked.
+fn put_temperature(kind: u8, t: Tenths, values: &mut [u8], n: usize) -> usize
+    requires { ⌜ n + hundredthsSize ≤ length (now values) ⌝ }
+    ensures { λ r. ⌜ Grew (temperatureIn kind t) (now (values .entry)) n r (now (values .exit)) ⌝ }
+{
+    if kind == Lucid::TENTHS {
+        return put_tenths(t, values, n);
+    }
+    put_hundredths(Hundredths::of(t), values, n)
+}
+
+// Answers the value of a parameter.
+fn read_parameter(words: &[u32], place: u8, out: &mut [u8]) -> Outcome
+    requires { ⌜ (length (now words) ≡ wordCount) × ((place < parameterCount) × (roomLeast ≤ length (now out))) ⌝ }
+    ensures { λ r. ⌜ (r .number ≡ answered) × Wrote (answerOf ok (little parameterSize (getD (now (words .entry)) (parametersAt + place) 0))) (now (out .entry)) (r .len) (now (out .exit)) ⌝ }
+{
+    let mut values = [0u8; VALUES];
+    let value = words[PARAMETERS + place as usize];
+    let len = put_little(value, Lucid::PARAMETER_SIZE as usize, &mut values, 0);
+    respond(out, ANSWERED, Lucid::OK, &values, len)
+}
+
+// Sets a parameter, and its saved copy if that is asked.
+fn store(words: &mut [u32], place: usize, saved: bool, value: u32)
+    requires { ⌜ (length (now words) ≡ wordCount) × (place < parameterCount) ⌝ }
+    ensures { λ _. ⌜ now (words .exit) ≡ stored place saved value (now (words .entry)) ⌝ }
+{
+    words[PARAMETERS + place] = value;
+    if saved {
+        words[KEPT + place] = value;
+    }
+}
+
+// Sets both parameters of a channel to their defaults.
+fn reset(words: &mut [u32], channel: usize, saved: bool)
+    requires { ⌜ (length (now words) ≡ wordCount) × (channel < channels) ⌝ }
+    ensures { λ _. ⌜ now (words .exit) ≡ reset channel saved (now (words .entry)) ⌝ }
+{
+    store(words, 2 * channel, saved, CYCLE_DEFAULT);
+    store(words, 2 * channel + 1, saved, FLOOR_DEFAULT);
+}
+
+// Sets the demands of the channels that a mask names, lowest first.
+fn set_demands(words: &mut [u32], mask: u8, f: &[u8])
+    requires { ⌜ (length (now words) ≡ wordCount) × (length (now f) ≡ fieldAt + demandSize * length (channelsOf mask)) ⌝ }
+    ensures { λ _. ⌜ now (words .exit) ≡ demanded (channelsOf mask) (now (f .entry)) fieldAt (now (words .entry)) ⌝ }
+{
+    let mut left = mask;
+    let mut at = Lucid::DATA;
+    let mut channel = 0;
+    while channel < CHANNELS {
+        if left % 2 == 1 {
+            words[DEMANDS + channel] = pair(f, at);
+            at += Lucid::DEMAND_SIZE as usize;
+        }
+        left = left / 2;
+        channel += 1;
+    }
+}
+
+// Answers the values of the channels that a mask names, lowest first; or the fault, with nothing of the group in it.
+fn read_channels(words: &[u32], memory: &[u8], kind: u8, mask: u8, out: &mut [u8]) -> Outcome
+    requires { ⌜ (length (now words) ≡ wordCount) × ((length (now memory) ≡ memorySize) × (roomLeast ≤ length (now out))) ⌝ }
+    ensures { λ r. ⌜ GaveWords (read (now (words .entry)) (group (valueOf (now (words .entry)) (now (memory .entry)) kind) (channelsOf mask)))
+        (now (out .entry)) (r .number) (r .len) (now (words .entry)) (now (out .exit)) ⌝ }
+{
+    let mut values = [0u8; VALUES];
+    let mut len = 0;
+    let mut left = mask;
+    let mut channel = 0;
+    while channel < CHANNELS {
+        if left % 2 == 1 {
+            if kind == Lucid::DEMAND {
+                len = put_little(
+                    words[DEMANDS + channel],
+                    Lucid::DEMAND_SIZE as usize,
+                    &mut values,
+                    len,
+                );
+            } else {
+                let reading = read_code(memory[channel]);
+                let Reading::Temperature(t) = reading else {
+                    return respond(out, PROBE_FAULT, Lucid::ERR_EXECUTION, &values, 0);
+                };
+                len = put_temperature(kind, t, &mut values, len);
+            }
+        }
+        left = left / 2;
+        channel += 1;
+    }
+    respond(out, ANSWERED, Lucid::OK, &values, len)
+}
+
+// What the card does with a frame.
+pub(crate) fn obey(words: &mut [u32], memory: &[u8], f: &[u8], out: &mut [u8]) -> Outcome
+    requires { ⌜ (length (now words) ≡ wordCount) × ((length (now memory) ≡ memorySize) × (roomLeast ≤ length (now out))) ⌝ }
+    ensures { λ r. ⌜ GaveWords (lucidWords (now (words .entry)) (now (memory .entry)) (now (f .entry))) (now (out .entry)) (r .number) (r .len) (now (words .exit)) (now (out .exit)) ⌝ }
+{
+    if !Lucid::fits(f.len()) {
+        return Outcome {
+            number: FRAME_FORM,
+            len: 0,
+        };
+    }
+    let asked = judge(f);
+    match asked {
+        Asked::Refused(number, status) => tell(out, number, status),
+        Asked::GetIo(kind, mask) => read_channels(words, memory, kind, mask, out),
+        Asked::GetParam(place) => read_parameter(words, place, out),
+        Asked::SetIo(mask) => {
+            set_demands(words, mask, f);
+            tell(out, ANSWERED, Lucid::OK)
+        }
+        Asked::SetParam(place, saved, value) => {
+            store(words, place as usize, saved, value);
+            tell(out, ANSWERED, Lucid::OK)
+        }
+        Asked::Reset(channel, saved) => {
+            reset(words, channel as usize, saved);
+            tell(out, ANSWERED, Lucid::OK)
+        }
+    }
+}

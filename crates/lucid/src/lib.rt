@@ -1,0 +1,33 @@
+// The LucidControl dialect: what a frame asks, what the card answers, and the entry. Document 01, "LucidControl".
+pub mod answer;
+pub mod form;
+pub mod frame;
+
+use card::Outcome;
+use card::ROOM_LEAST;
+use card::numbers::BUFFER_SHORT;
+use card::numbers::CARD_UNFIT;
+ghost use lib.ListN.{length};
+ghost use Rattle.card.specs.Layout.{cardOf};
+ghost use Rattle.card.specs.Reply.{Gave};
+ghost use Rattle.lucid.specs.Answer.{lucidReply};
+
+// A LucidControl frame f received by the card; the answer goes to the front of out. Memory and the pending change are lent to be read only.
+pub fn lucid(words: &mut [u32], memory: &[u8], pending: &[u8], f: &[u8], out: &mut [u8]) -> Outcome
+    ensures { λ r. ⌜ Gave (lucidReply (cardOf (now (words .entry)) (now (memory .entry)) (now (pending .entry))) (length (now (out .entry))) (now (f .entry)))
+        (now (out .entry)) (r .number) (r .len) (now (words .exit)) (now (memory .entry)) (now (pending .entry)) (now (out .exit)) ⌝ }
+{
+    if !card::fitness::is_fit(words, memory, pending) {
+        return Outcome {
+            number: CARD_UNFIT,
+            len: 0,
+        };
+    }
+    if out.len() < ROOM_LEAST {
+        return Outcome {
+            number: BUFFER_SHORT,
+            len: 0,
+        };
+    }
+    answer::obey(words, memory, f, out)
+}
