@@ -6,19 +6,18 @@ use lib.Dec.{eqb}
 use lib.ListN.{getD, set, drop}
 use Rattle.wire.specs.Choose.{choose}
 use Rattle.wire.specs.Buffer.{part, overlay}
-use Rattle.wire.specs.Sum.{sumOf}
 use Rattle.card.specs.Numbers.{answered, done, nothingPending}
 use Rattle.card.specs.Layout.{Card, iaAt, kindAt, numAt, lowAddressAt, highAddressAt, dataAt}
 use Rattle.card.specs.Tables.{noChange, changeBits, named, addressOf, memoryStart}
 use Rattle.card.specs.Entries.{dropped}
 use Rattle.card.specs.Reply.{Reply, silent, sent, shell, roomLeast}
-use Rattle.datalink.specs.Frame.{start, responseBits, numPlace, dataPlace, asked}
+use Rattle.datalink.specs.Frame.{framed, responseBits, numPlace, dataPlace, asked}
 use Rattle.datalink.specs.declared.frame.Order.{Order}
 use Rattle.datalink.specs.declared.frame.Order.the-variants.{Refused, Interrogate, Change, Acknowledge}
 
--- "Response 20h": 7Eh, the response bits plus I.A., a body of NUM, address and data, and the LRC
+-- "Response 20h": a frame whose body is NUM, address and data
 unfoldable pub response : ℕ → List ℕ → List ℕ
-response ia body = (start ∷ (responseBits + ia) ∷ body) ++ (sumOf ((responseBits + ia) ∷ body) ∷ [])
+response ia body = framed (responseBits + ia) body
 
 -- the card's I.A.
 unfoldable pub iaOf : Card → ℕ

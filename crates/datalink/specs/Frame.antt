@@ -2,7 +2,7 @@
 -- 7Eh; command bits plus I.A.; NUM; low address; high address; data; LRC.
 use Prim.Native.Nat.{ℕ, _+_, _-_, _*_, _%_, _/_}
 use mathlib.Core.Bool.{Bool, true, _&&_, _||_, not}
-use mathlib.Core.List.{List}
+use mathlib.Core.List.{List, [], _∷_, _++_}
 use lib.Dec.{leb, eqb}
 use lib.ListN.{length, getD}
 use Rattle.wire.specs.Choose.{choose}
@@ -67,6 +67,10 @@ numIn f = getD f numPlace 0
 
 unfoldable pub addressIn : List ℕ → ℕ
 addressIn f = addressOf (getD f lowAddressPlace 0) (getD f highAddressPlace 0)
+
+-- a frame in that form: 7Eh, its second byte, a body of NUM, address and data, and the LRC
+unfoldable pub framed : ℕ → List ℕ → List ℕ
+framed second body = (start ∷ second ∷ body) ++ (sumOf (second ∷ body) ∷ [])
 
 -- "Interrogate E0h, Change A0h, Change Bits C0h, Acknowledge 80h"
 unfoldable pub commandKnown : ℕ → Bool

@@ -25,16 +25,16 @@ ghost use Rattle.card.specs.Layout.{cardOf, memorySize, pendingSize, dataMost};
 ghost use Rattle.card.specs.Tables.{iaMost, changeBits, memoryStart, memoryEnd};
 ghost use Rattle.card.specs.Fit.{Fit};
 ghost use Rattle.card.specs.Reply.{Gave, Did, Wrote, roomLeast};
-ghost use Rattle.datalink.specs.Frame.{asked, numPlace, dataPlace, bareSize};
+ghost use Rattle.datalink.specs.Frame.{framed, asked, numPlace, dataPlace, bareSize};
 ghost use Rattle.datalink.specs.Answer.{response, newByte, changed, acknowledged, bodyOf, obeyed, iaOf};
 
-// Writes the response whose body is head and then bytes at the front of out.
-pub fn respond(out: &mut [u8], ia: u32, head: &[u8], bytes: &[u8]) -> usize
-    requires { ⌜ (ia ≤ iaMost) × ((length (now head) + length (now bytes) + 3 ≤ roomLeast) × (roomLeast ≤ length (now out))) ⌝ }
-    ensures { λ r. ⌜ Wrote (response ia (now (head .entry) ++ now (bytes .entry))) (now (out .entry)) r (now (out .exit)) ⌝ }
+// Writes a frame at the front of out: 7Eh, its second byte, a body of head and then bytes, and the LRC.
+pub fn write_frame(out: &mut [u8], second: u8, head: &[u8], bytes: &[u8]) -> usize
+    requires { ⌜ (length (now head) + length (now bytes) + 3 ≤ roomLeast) × (roomLeast ≤ length (now out)) ⌝ }
+    ensures { λ r. ⌜ Wrote (framed second (now (head .entry) ++ now (bytes .entry))) (now (out .entry)) r (now (out .exit)) ⌝ }
 {
     out[0] = Datalink::START;
-    out[1] = Datalink::RESPONSE + ia as u8;
+    out[1] = second;
     wire::copy(head, out, 2);
     let at = 2 + head.len();
     wire::copy(bytes, out, at);
@@ -42,6 +42,15 @@ pub fn respond(out: &mut [u8], ia: u32, head: &[u8], bytes: &[u8]) -> usize
     let lrc = wire::sum(&out[1..end]);
     out[end] = lrc;
     end + 1
+}
+
+// Writes the response whose body is head and then bytes at the front of out.
+fn respond(out: &mut [u8], ia: u32, head: &[u8], bytes: &[u8]) -> usize
+    requires { ⌜ (ia ≤ iaMost) × ((length (now head) + length (now bytes) + 3 ≤ roomLeast) × (roomLeast ≤ length (now out))) ⌝ }
+    ensures { λ r. ⌜ Wrote (response ia (now (head .entry) ++ now (bytes .entry))) (now (out .entry)) r (now (out .exit)) ⌝ }
+{
+    let second = Datalink::RESPONSE + ia as u8;
+    write_frame(out, second, head, bytes)
 }
 
 // Makes the change of frame f, of its kind and NUM, the pending one.
