@@ -9,11 +9,12 @@ use Rattle.card.specs.Entries.{setCode}
 use Rattle.datalink.specs.Answer.{datalinkReply}
 use Rattle.lecom.specs.Answer.{lecomReply}
 use Rattle.love.specs.Answer.{loveReply}
+use Rattle.lucid.specs.Answer.{lucidReply}
 
 -- a call of the card
 pub data Call : Type 0 where
   code : ℕ → ℕ → Call
-  datalink lecom love : List ℕ → Call
+  datalink lecom love lucid : List ℕ → Call
 
 -- its reply, with the smallest answer buffer
 abbrev pub replyTo : Card → Call → Reply
@@ -21,6 +22,7 @@ replyTo card (code channel value) = setCode card channel value
 replyTo card (datalink f) = datalinkReply card roomLeast f
 replyTo card (lecom f) = lecomReply card roomLeast f
 replyTo card (love f) = loveReply card roomLeast f
+replyTo card (lucid f) = lucidReply card roomLeast f
 
 -- a call with its number and wire bytes
 pub record Line : Type 0 where

@@ -4,8 +4,8 @@ use mathlib.Core.List.{List, [], _∷_, _++_}
 use lib.ListN.{replicate}
 use Rattle.card.specs.Layout.{Card, cardOf, loveCount, channels, registers, memorySize, pendingSize}
 use Rattle.card.specs.Tables.{demandMost}
-use Rattle.card.specs.Numbers.{answered, done, checkCharacter, readOnly}
-use Rattle.examples.specs.Exchanges.{Call, code, datalink, lecom, love, Line}
+use Rattle.card.specs.Numbers.{answered, done, checkCharacter, readOnly, probeFault}
+use Rattle.examples.specs.Exchanges.{Call, code, datalink, lecom, love, lucid, Line}
 
 -- LucidControl parameters 1110h and 1120h of the four channels at their defaults
 abbrev pub defaults : List ℕ
@@ -96,6 +96,19 @@ p10 =
     ∷ line (love (0x02 ∷ 0x4C ∷ 0x33 ∷ 0x32 ∷ 0x30 ∷ 0x30 ∷ 0x43 ∷ 0x35 ∷ 0x03 ∷ [])) answered (0x02 ∷ 0x4C ∷ 0x33 ∷ 0x32 ∷ 0x43 ∷ 0x30 ∷ 0x30 ∷ 0x30 ∷ 0x30 ∷ 0x30 ∷ 0x35 ∷ 0x30 ∷ 0x34 ∷ 0x39 ∷ 0x06 ∷ [])
     ∷ []
 
+-- P11 46 00 40 00: code 78 gives 00 02 F6 FF
+abbrev pub p11 : List Line
+p11 =
+    line (code 0 78) done []
+    ∷ line (lucid (0x46 ∷ 0x00 ∷ 0x40 ∷ 0x00 ∷ [])) answered (0x00 ∷ 0x02 ∷ 0xF6 ∷ 0xFF ∷ [])
+    ∷ []
+
+-- P12 code 255 gives D0 00
+abbrev pub p12 : List Line
+p12 =
+    line (lucid (0x46 ∷ 0x00 ∷ 0x40 ∷ 0x00 ∷ [])) probeFault (0xD0 ∷ 0x00 ∷ [])
+    ∷ []
+
 -- the table
 abbrev pub rows : List (List Line)
-rows = p1 ∷ p2 ∷ p3 ∷ p4 ∷ p5 ∷ p6 ∷ p7 ∷ p8 ∷ p9 ∷ p10 ∷ []
+rows = p1 ∷ p2 ∷ p3 ∷ p4 ∷ p5 ∷ p6 ∷ p7 ∷ p8 ∷ p9 ∷ p10 ∷ p11 ∷ p12 ∷ []

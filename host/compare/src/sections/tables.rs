@@ -108,18 +108,11 @@ fn limits(out: &mut Writer, turn: usize) {
 /// A pending change that is fit, or unfit by its kind, address or NUM; all calls; nothing pending again.
 fn pending(out: &mut Writer, turn: usize) {
     let case = turn % (2 * PENDING_FAULTS + NO_CHANGES.len());
-    let (kind, address, num) = match NO_CHANGES.get(case) {
-        Some(&kind) => {
-            let (address, num) = change_with(&mut out.rng, kind, 0);
-            (kind, address, num)
-        }
-        None => {
-            let kind = 1 + (case % 2) as u8;
-            let fault = (case - NO_CHANGES.len()) / 2;
-            let (address, num) = change_with(&mut out.rng, kind, fault);
-            (kind, address, num)
-        }
+    let (kind, fault) = match NO_CHANGES.get(case) {
+        Some(&kind) => (kind, 0),
+        None => (1 + (case % 2) as u8, (case - NO_CHANGES.len()) / 2),
     };
+    let (address, num) = change_with(&mut out.rng, kind, fault);
     out.set_pending(kind, address, num);
     out.peek(false);
     if out.rng.chance(50) {
