@@ -1,0 +1,158 @@
+-- The theorem of specs/NoTemperature.antt, dialect by dialect. Assumes nothing.
+use Prim.Native.Nat.{ℕ, _+_, _-_, _≤_, _<_}
+use mathlib.Core.Path.{_≡_, refl, sym, ap, ap₂, _∙_}
+use mathlib.Core.Bool.{Bool, true, false}
+use mathlib.Core.Logic.{_⊎_, inl, inr, ⊎-elim}
+use mathlib.Core.List.{List, [], _∷_}
+use native.Mathlib.Omega.{arith}
+use borrow.Author.Tests.{eqb-true, eqb-false, eq-eqb, ne-eqb, ltb-false}
+use lib.Dec.{eqb, ltb, leb}
+use lib.ListN.{length, getD, set, length-set}
+use lib.Seq.{getD-set-other}
+use Rattle.wire.specs.Choose.{choose}
+use Rattle.wire.proofs.Cases.{by-choice}
+use Rattle.card.specs.Layout.{Card, channels}
+use Rattle.card.specs.Tables.{fit}
+use Rattle.card.specs.Probe.{faultCode, readingOf}
+use Rattle.card.specs.Entries.{withCode}
+use Rattle.card.specs.Governor.{governorOf, toldOf, valuesOf}
+use Rattle.card.specs.Numbers.{bufferShort, cardUnfit, probeFault}
+use Rattle.card.specs.Reply.{WordsReply, onWords, silent, shell, roomLeast}
+use Rattle.card.specs.declared.governor.Governor.{Governor}
+use Rattle.lecom.specs.Frame.{firstProbe, probesEnd, asked as lecomAsked}
+use Rattle.lecom.specs.Answer.{leaving, readAnswer, obeyed as lecomObeyed, addressOf as lecomAddress, lecomReply}
+use Rattle.lecom.specs.declared.frame.Order.{Order as LecomOrder}
+use Rattle.lecom.specs.declared.frame.Order.the-variants.{Unheard, Refused as LecomRefused, Read as LecomRead, Write as LecomWrite}
+use Rattle.lecom.proofs.Laws.{fault as lecom-fault}
+use Rattle.love.specs.Frame.{asked as loveAsked}
+use Rattle.love.specs.Answer.{normalReply, probeField, obeyed as loveObeyed, addressOf, loveReply}
+use Rattle.love.specs.declared.frame.Order.{Order as LoveOrder}
+use Rattle.love.specs.declared.frame.Order.the-variants.{Silent, Refused as LoveRefused, Probe, Read as LoveRead, Write as LoveWrite}
+use Rattle.love.proofs.Laws.{fault as love-fault}
+use Rattle.lucid.specs.Form.{demand, fits, channelsOf, errExecution}
+use Rattle.lucid.specs.Frame.{askedOf}
+use Rattle.lucid.specs.Answer.{Values, Held, Failed, joined, group, readingIn, valueOf, read, refused, obeyed as lucidObeyed, lucidWords, lucidReply}
+use Rattle.lucid.specs.declared.frame.Asked.{Asked}
+use Rattle.lucid.specs.declared.frame.Asked.the-variants.{Refused as LucidRefused, GetIo, SetIo, GetParam, SetParam, Reset}
+use Rattle.faults.specs.NoTemperature.{SameAnswer, NoTemperature, lecomFault, loveFault, lucidFault}
+
+-- another code does not change which card is fit, so an answer over the words alone passes the shell in the same way
+module _ (card : Card) (channel code room : ℕ) where
+  fit-same : fit (withCode card channel code) ≡ fit card
+  unfolding fit withCode
+  fit-same = rw length-set
+
+  shell-same : (x y : WordsReply) → x ≡ y → SameAnswer (shell roomLeast card room (onWords card x)) (shell roomLeast (withCode card channel code) room (onWords (withCode card channel code) y))
+  unfolding shell choose
+  shell-same x y e = rw fit-same (by (fit card) (leb roomLeast room))
+    where
+      by : (t u : Bool)
+          → SameAnswer (choose t (choose u (onWords card x) (silent bufferShort card)) (silent cardUnfit card))
+          (choose t (choose u (onWords (withCode card channel code) y) (silent bufferShort (withCode card channel code))) (silent cardUnfit (withCode card channel code)))
+      by true true = record { numbers = ap (λ (r : WordsReply). r .number) e; bytes = ap (λ (r : WordsReply). r .bytes) e }
+      by true false = record { numbers = refl; bytes = refl }
+      by false u = record { numbers = refl; bytes = refl }
+
+module _ (channel code : ℕ) (words memory : List ℕ) where
+  -- a read of anything but this channel's probe
+  lecom-read : (f : List ℕ) (asks : ℕ) → (asks ≡ firstProbe + channel → ⊥) → readAnswer words memory f asks ≡ readAnswer words (set memory channel code) f asks
+  unfolding readAnswer choose
+  lecom-read f asks other = by (ltb asks firstProbe) refl
+    where
+      by : (t : Bool) → ltb asks firstProbe ≡ t → readAnswer words memory f asks ≡ readAnswer words (set memory channel code) f asks
+      by true e = rw e
+      by false e =
+          let away : asks - firstProbe ≡ channel → ⊥ = λ d. other (omega (arith, ltb-false asks firstProbe e)) in
+          rw (e, getD-set-other memory channel (asks - firstProbe) code 0 away)
+
+  lecom-either : (f : List ℕ) (o : LecomOrder) → (o ≡ LecomRead (firstProbe + channel)) ⊎ (lecomObeyed words memory f o ≡ lecomObeyed words (set memory channel code) f o)
+  unfolding lecomObeyed
+  lecom-either f (Unheard number) = inr refl
+  lecom-either f (LecomRefused number) = inr refl
+  lecom-either f (LecomRead asks) = by (eqb asks (firstProbe + channel)) refl
+    where
+      by : (t : Bool) → eqb asks (firstProbe + channel) ≡ t → (LecomRead asks ≡ LecomRead (firstProbe + channel)) ⊎ (lecomObeyed words memory f (LecomRead asks) ≡ lecomObeyed words (set memory channel code) f (LecomRead asks))
+      by true e = inl (ap LecomRead (eqb-true asks (firstProbe + channel) e))
+      by false e = inr (ap (leaving words) (lecom-read f asks (eqb-false asks (firstProbe + channel) e)))
+  lecom-either f (LecomWrite asks value) = inr refl
+
+  love-either : (o : LoveOrder) → ((o ≡ Probe) × (channel ≡ 0)) ⊎ (loveObeyed words memory o ≡ loveObeyed words (set memory channel code) o)
+  unfolding loveObeyed
+  love-either (Silent number) = inr refl
+  love-either (LoveRefused number why) = inr refl
+  love-either Probe = by (eqb channel 0) refl
+    where
+      by : (t : Bool) → eqb channel 0 ≡ t → ((Probe ≡ Probe) × (channel ≡ 0)) ⊎ (loveObeyed words memory Probe ≡ loveObeyed words (set memory channel code) Probe)
+      by true e = inl (refl, eqb-true channel 0 e)
+      by false e = inr (rw (getD-set-other memory channel 0 code 0 (λ d. eqb-false channel 0 e (sym d))))
+  love-either (LoveRead k) = inr refl
+  love-either (LoveWrite k word) = inr refl
+
+  joined-failed : (v : Values) → joined v Failed ≡ Failed
+  unfolding joined
+  joined-failed (Held a) = refl
+  joined-failed Failed = refl
+
+  -- the value of one channel: failed, or the same with any code
+  lucid-value : getD memory channel 0 ≡ faultCode → (kind k : ℕ) → (valueOf words memory kind k ≡ Failed) ⊎ (valueOf words memory kind k ≡ valueOf words (set memory channel code) kind k)
+  unfolding valueOf choose readingIn readingOf
+  lucid-value failed kind k = by (eqb kind demand) refl (eqb k channel) refl
+    where
+      by : (t : Bool) → eqb kind demand ≡ t → (u : Bool) → eqb k channel ≡ u
+          → (valueOf words memory kind k ≡ Failed) ⊎ (valueOf words memory kind k ≡ valueOf words (set memory channel code) kind k)
+      by true e u d = inr (rw e)
+      by false e true d = inl (rw (e, eqb-true k channel d, failed))
+      by false e false d = inr (rw (e, getD-set-other memory channel k code 0 (eqb-false k channel d)))
+
+  lucid-group : getD memory channel 0 ≡ faultCode → (kind : ℕ) (ks : List ℕ)
+      → (group (valueOf words memory kind) ks ≡ Failed) ⊎ (group (valueOf words memory kind) ks ≡ group (valueOf words (set memory channel code) kind) ks)
+  unfolding group joined
+  lucid-group failed kind [] = inr refl
+  lucid-group failed kind (k ∷ ks) =
+      ⊎-elim (λ e. inl (rw e))
+      (λ e.
+      ⊎-elim (λ d. inl (ap (joined (valueOf words memory kind k)) d ∙ joined-failed (valueOf words memory kind k))) (λ d. inr (ap₂ joined e d)) (lucid-group failed kind ks))
+      (lucid-value failed kind k)
+
+  lucid-either : getD memory channel 0 ≡ faultCode → (f : List ℕ) (o : Asked) → (lucidObeyed words memory f o ≡ refused probeFault errExecution words) ⊎ (lucidObeyed words memory f o ≡ lucidObeyed words (set memory channel code) f o)
+  unfolding lucidObeyed read
+  lucid-either failed f (LucidRefused number status) = inr refl
+  lucid-either failed f (GetIo kind mask) =
+      ⊎-elim (λ e. inl (ap (read words) e)) (λ e. inr (ap (read words) e)) (lucid-group failed kind (channelsOf mask))
+  lucid-either failed f (SetIo mask) = inr refl
+  lucid-either failed f (GetParam place) = inr refl
+  lucid-either failed f (SetParam place saved value) = inr refl
+  lucid-either failed f (Reset which saved) = inr refl
+
+  lucid-words : getD memory channel 0 ≡ faultCode → (f : List ℕ) → (lucidWords words memory f ≡ refused probeFault errExecution words) ⊎ (lucidWords words memory f ≡ lucidWords words (set memory channel code) f)
+  unfolding lucidWords choose
+  lucid-words failed f = by (fits (length f)) refl
+    where
+      by : (t : Bool) → fits (length f) ≡ t → (lucidWords words memory f ≡ refused probeFault errExecution words) ⊎ (lucidWords words memory f ≡ lucidWords words (set memory channel code) f)
+      by true e = ⊎-elim (λ d. inl (rw e d)) (λ d. inr (rw e d)) (lucid-either failed f (askedOf f))
+      by false e = inr (rw e)
+
+no-degrees : (card : Card) (channel : ℕ) → getD (card .memory) channel 0 ≡ faultCode → valuesOf (governorOf card channel) ≡ []
+unfolding governorOf toldOf
+no-degrees card channel failed =
+    by-choice (λ (g : Governor). valuesOf g ≡ []) (fit card) _ _
+    (λ _. by-choice (λ (g : Governor). valuesOf g ≡ []) (ltb channel channels) _ _
+    (λ _. by-choice (λ (g : Governor). valuesOf g ≡ []) (eqb (getD (card .memory) channel 0) faultCode) _ _ (λ _. refl) (λ e. absurd (eqb-false _ _ e failed)))
+    (λ _. refl))
+    (λ _. refl)
+
+pub no-temperature : (card : Card) (channel code room : ℕ) (f : List ℕ) → channel < channels → getD (card .memory) channel 0 ≡ faultCode → NoTemperature card channel code room f
+unfolding withCode lecomReply loveReply lucidReply
+no-temperature card channel code room f inside failed =
+    record {
+      governor = no-degrees card channel failed;
+      lecom =
+          ⊎-elim (λ o. inl (lecom-fault card room f channel inside o failed)) (λ e. inr (shell-same card channel code room _ _ e))
+          (lecom-either channel code (card .words) (card .memory) f (lecomAsked (lecomAddress (card .words)) f));
+      love =
+          ⊎-elim (λ o. inl (love-fault card room f (o .0) (ap (λ (k : ℕ). getD (card .memory) k 0) (sym (o .1)) ∙ failed))) (λ e. inr (shell-same card channel code room _ _ e))
+          (love-either channel code (card .words) (card .memory) (loveAsked (addressOf (card .words)) f));
+      lucid =
+          ⊎-elim (λ e. inl (ap (λ (r : WordsReply). shell roomLeast card room (onWords card r)) e)) (λ e. inr (shell-same card channel code room _ _ e))
+          (lucid-words channel code (card .words) (card .memory) failed f);
+    }
