@@ -8,7 +8,8 @@ use lib.ListN.{length, set, length-append, length-take, length-drop}
 use Rattle.wire.specs.Buffer.{put, part}
 use Rattle.wire.proofs.Cases.{yes, no}
 use Rattle.wire.proofs.Buffers.{overlay-none, overlay-sets, overlay-set, overlay-put, overlay-rest}
-use Rattle.figures.specs.Signed.{textOf}
+use Rattle.figures.specs.Signed.{textOf, longestText}
+use Rattle.figures.proofs.Texts.{text-length}
 use Rattle.card.specs.Numbers.{answered, done}
 use Rattle.card.specs.Reply.{Wrote}
 use Rattle.lecom.specs.Frame.{stx, etx, collective, codeStart, codeEnd, codeOf, bccOf}
@@ -53,6 +54,10 @@ wrote-code f out at end out′ a e h l p =
     let n : 1 + (end - at) ≡ 1 + length (codeOf f) = omega (arith, code-length f h) in
     let q : part f at end ≡ codeOf f = rw (a, e) in
     rw (n, p, q) (wrote-put (stx ∷ []) out (wrote-one stx out l) (codeOf f))
+
+-- a value's text has at most `longestText` characters
+pub text-most : (value : ℕ) {k : ℕ} → k ≡ length (textOf value) → k ≤ longestText
+text-most value e = omega (arith, e, text-length value)
 
 -- what stands after STX is what the BCC goes over
 bcc-over : (f out : List ℕ) (value last : ℕ) (out′ : List ℕ) → Wrote (stx ∷ valueBody f value) out last out′ → part out′ 1 last ≡ valueBody f value

@@ -1,6 +1,5 @@
 -- `lecom::answer::put_value` meets its contract, piece by piece. Assumes nothing.
-use Rattle.lecom.proofs.Writes.{code-most, wrote-value}
-use Rattle.figures.proofs.Texts.{text-length}
+use Rattle.lecom.proofs.Writes.{code-most, text-most, wrote-value}
 use Prim.Native.Nat.{_+_, _≤_}
 use mathlib.Core.Path.{_≡_}
 use lib.ListN.{length, length-set}
@@ -20,7 +19,7 @@ room : (c : tie.After-slice-known3) → (c .before .before .before .before .befo
 room c =
     let code = c .before .before .before .before .before .before .put-code in
     let text = c .before .before .put-text in
-    omega (arith, code-most (c .before .before .before .before .before .before .before .before .before .before .args .f .now) (c .before .before .before .before .before .before .before .before .before .before .pre .0 .1), code .ensures .measured, code .kept .1 .0, text-length (c .before .before .before .before .before .before .before .before .before .before .args .value), text .ensures .0, text .kept .0)
+    omega (arith, code-most (c .before .before .before .before .before .before .before .before .before .before .args .f .now) (c .before .before .before .before .before .before .before .before .before .before .pre .0 .1), code .ensures .measured, code .kept .1 .0, text-most _ (text .ensures .0), text .kept .0)
 
 add-end : tie.Need-add-end
 add-end c = omega (arith, room c)
