@@ -1,6 +1,7 @@
 // The card's entries for firmware in C: thin, each with the whole contract of the entry below it. include/nakshvilor.h describes them.
 use card::governor::Governor;
-use card::numbers::{ANSWERED, PROBE_FAULT};
+use card::numbers::ANSWERED;
+use card::numbers::PROBE_FAULT;
 ghost use mathlib.Core.Path.{_≡_};
 ghost use lib.ListN.{length};
 ghost use Rattle.card.specs.Layout.{cardOf};
@@ -14,7 +15,13 @@ ghost use Rattle.image.specs.Entries.{writeImage, readImage};
 ghost use Rattle.firmware.specs.Lent.{degreesIn};
 
 #[no_mangle]
-pub extern "C" fn nk_set_code(words: &[u32], memory: &mut [u8], pending: &[u8], channel: u32, code: u8) -> u8
+pub extern "C" fn nk_set_code(
+    words: &[u32],
+    memory: &mut [u8],
+    pending: &[u8],
+    channel: u32,
+    code: u8,
+) -> u8
     ensures { λ r. ⌜ Did (setCode (cardOf (now (words .entry)) (now (memory .entry)) (now (pending .entry))) channel code) r (now (words .entry)) (now (memory .exit)) (now (pending .entry)) ⌝ }
 {
     card::entries::set_code(words, memory, pending, channel, code)
@@ -42,14 +49,30 @@ fn tell(told: Governor, degrees: &mut f32) -> u8
 }
 
 #[no_mangle]
-pub extern "C" fn nk_governor(words: &[u32], memory: &[u8], pending: &[u8], channel: u32, degrees: &mut f32) -> u8
+pub extern "C" fn nk_governor(
+    words: &[u32],
+    memory: &[u8],
+    pending: &[u8],
+    channel: u32,
+    degrees: &mut f32,
+) -> u8
     ensures { λ r. ⌜ (r ≡ numberOf (governorOf (cardOf (now (words .entry)) (now (memory .entry)) (now (pending .entry))) channel)) × (now (degrees .exit) ≡ degreesIn (governorOf (cardOf (now (words .entry)) (now (memory .entry)) (now (pending .entry))) channel) (now (degrees .entry))) ⌝ }
 {
-    tell(card::governor::governor_reading(words, memory, pending, channel), degrees)
+    tell(
+        card::governor::governor_reading(words, memory, pending, channel),
+        degrees,
+    )
 }
 
 #[no_mangle]
-pub extern "C" fn nk_datalink(words: &[u32], memory: &mut [u8], pending: &mut [u8], frame: &[u8], answer: &mut [u8], len: &mut usize) -> u8
+pub extern "C" fn nk_datalink(
+    words: &[u32],
+    memory: &mut [u8],
+    pending: &mut [u8],
+    frame: &[u8],
+    answer: &mut [u8],
+    len: &mut usize,
+) -> u8
     ensures { λ r. ⌜ Gave (datalinkReply (cardOf (now (words .entry)) (now (memory .entry)) (now (pending .entry))) (length (now (answer .entry))) (now (frame .entry))) (now (answer .entry)) r (now (len .exit)) (now (words .entry)) (now (memory .exit)) (now (pending .exit)) (now (answer .exit)) ⌝ }
 {
     let given = datalink::datalink(words, memory, pending, frame, answer);
@@ -58,7 +81,14 @@ pub extern "C" fn nk_datalink(words: &[u32], memory: &mut [u8], pending: &mut [u
 }
 
 #[no_mangle]
-pub extern "C" fn nk_lecom(words: &mut [u32], memory: &[u8], pending: &[u8], frame: &[u8], answer: &mut [u8], len: &mut usize) -> u8
+pub extern "C" fn nk_lecom(
+    words: &mut [u32],
+    memory: &[u8],
+    pending: &[u8],
+    frame: &[u8],
+    answer: &mut [u8],
+    len: &mut usize,
+) -> u8
     ensures { λ r. ⌜ Gave (lecomReply (cardOf (now (words .entry)) (now (memory .entry)) (now (pending .entry))) (length (now (answer .entry))) (now (frame .entry))) (now (answer .entry)) r (now (len .exit)) (now (words .exit)) (now (memory .entry)) (now (pending .entry)) (now (answer .exit)) ⌝ }
 {
     let given = lecom::lecom(words, memory, pending, frame, answer);
@@ -67,7 +97,14 @@ pub extern "C" fn nk_lecom(words: &mut [u32], memory: &[u8], pending: &[u8], fra
 }
 
 #[no_mangle]
-pub extern "C" fn nk_love(words: &mut [u32], memory: &[u8], pending: &[u8], frame: &[u8], answer: &mut [u8], len: &mut usize) -> u8
+pub extern "C" fn nk_love(
+    words: &mut [u32],
+    memory: &[u8],
+    pending: &[u8],
+    frame: &[u8],
+    answer: &mut [u8],
+    len: &mut usize,
+) -> u8
     ensures { λ r. ⌜ Gave (loveReply (cardOf (now (words .entry)) (now (memory .entry)) (now (pending .entry))) (length (now (answer .entry))) (now (frame .entry))) (now (answer .entry)) r (now (len .exit)) (now (words .exit)) (now (memory .entry)) (now (pending .entry)) (now (answer .exit)) ⌝ }
 {
     let given = love::love(words, memory, pending, frame, answer);
@@ -76,7 +113,13 @@ pub extern "C" fn nk_love(words: &mut [u32], memory: &[u8], pending: &[u8], fram
 }
 
 #[no_mangle]
-pub extern "C" fn nk_write_image(words: &[u32], memory: &[u8], pending: &[u8], image: &mut [u8], len: &mut usize) -> u8
+pub extern "C" fn nk_write_image(
+    words: &[u32],
+    memory: &[u8],
+    pending: &[u8],
+    image: &mut [u8],
+    len: &mut usize,
+) -> u8
     ensures { λ r. ⌜ Gave (writeImage (cardOf (now (words .entry)) (now (memory .entry)) (now (pending .entry))) (length (now (image .entry)))) (now (image .entry)) r (now (len .exit)) (now (words .entry)) (now (memory .entry)) (now (pending .entry)) (now (image .exit)) ⌝ }
 {
     let given = image::write_image(words, memory, pending, image);
@@ -85,7 +128,12 @@ pub extern "C" fn nk_write_image(words: &[u32], memory: &[u8], pending: &[u8], i
 }
 
 #[no_mangle]
-pub extern "C" fn nk_read_image(words: &mut [u32], memory: &[u8], pending: &[u8], image: &[u8]) -> u8
+pub extern "C" fn nk_read_image(
+    words: &mut [u32],
+    memory: &[u8],
+    pending: &[u8],
+    image: &[u8],
+) -> u8
     ensures { λ r. ⌜ Did (readImage (cardOf (now (words .entry)) (now (memory .entry)) (now (pending .entry))) (now (image .entry))) r (now (words .exit)) (now (memory .entry)) (now (pending .entry)) ⌝ }
 {
     image::read_image(words, memory, pending, image)
