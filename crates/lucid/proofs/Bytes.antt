@@ -33,9 +33,6 @@ little-next values n i size left h k =
 pub grew-as : {values values′ : List ℕ} {n len : ℕ} (b d : List ℕ) → b ≡ d → Grew b values n len values′ → Grew d values n len values′
 grew-as {values} {values′} {n} {len} b d e = subst (λ (x : List ℕ). Grew x values n len values′) e
 
-pub wrote-as : {out out′ : List ℕ} {len : ℕ} (b d : List ℕ) → b ≡ d → Wrote b out len out′ → Wrote d out len out′
-wrote-as {out} {out′} {len} b d e = subst (λ (x : List ℕ). Wrote x out len out′) e
-
 -- a buffer known under another name
 pub wrote-on : {b out′ : List ℕ} {len : ℕ} (o p : List ℕ) → o ≡ p → Wrote b o len out′ → Wrote b p len out′
 wrote-on {b} {out′} {len} o p e = subst (λ (x : List ℕ). Wrote b x len out′) e

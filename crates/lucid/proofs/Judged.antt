@@ -29,23 +29,23 @@ use Rattle.lucid.specs.Frame.{
   addressKnown,
   valueRight,
   placeOf,
-  parameterOrder,
-  orderOf,
+  orderedParameter,
+  ordered,
   parameterAsked,
   optionAsked,
-  askedOf,
+  asked,
   opcIn,
   p1In,
   p2In,
   lenIn,
   Sized,
 }
-use Rattle.lucid.specs.declared.frame.Asked.{Asked}
-use Rattle.lucid.specs.declared.frame.Asked.the-variants.{Refused, GetIo, SetIo, GetParam, SetParam, Reset}
+use Rattle.lucid.specs.declared.frame.Order.{Order}
+use Rattle.lucid.specs.declared.frame.Order.the-variants.{Refused, GetIo, SetIo, GetParam, SetParam, Reset}
 use Rattle.lucid.proofs.Bools.{or-right}
 use Rattle.lucid.proofs.Lengths.{single-channel}
 
-abbrev pub Safe : List ℕ → Asked → Type 0
+abbrev pub Safe : List ℕ → Order → Type 0
 Safe f (Refused number status) = Unit {0}
 Safe f (GetIo kind mask) = Unit {0}
 Safe f (SetIo mask) = length f ≡ fieldAt + demandSize * length (channelsOf mask)
@@ -59,8 +59,8 @@ place-within channel address h = by-choice (λ (n : ℕ). n < parameterCount) _ 
 
 module _ (f : List ℕ) where
   -- a test, of which the other way is a refusal
-  or-refused : (t : Bool) (asked : Asked) (number status : ℕ) → (t ≡ true → Safe f asked) → Safe f (choose t asked (Refused number status))
-  or-refused t asked number status p = by-choice (Safe f) t asked (Refused number status) p (λ _. tt)
+  or-refused : (t : Bool) (order : Order) (number status : ℕ) → (t ≡ true → Safe f order) → Safe f (choose t order (Refused number status))
+  or-refused t order number status p = by-choice (Safe f) t order (Refused number status) p (λ _. tt)
 
   module _ (opc p1 p2 : ℕ) (sized : Sized opc p1 p2 f) where
     -- SetIo and SetIoGroup have two bytes for each channel
@@ -72,8 +72,8 @@ module _ (f : List ℕ) where
         let len = no (isGet opc) _ _ _ g (yes (isSet opc) (sizeOf p2 * length (channelsOf (maskOf opc p1))) _ _ s refl) in
         sized .measured ∙ ap (λ (n : ℕ). fieldAt + n) (sym len ∙ ap (λ (n : ℕ). n * length (channelsOf (maskOf opc p1))) (sym size))
 
-    safe-order : typeWritable opc p2 ≡ true → Safe f (orderOf opc p1 p2 f)
-    unfolding orderOf parameterOrder
+    safe-order : typeWritable opc p2 ≡ true → Safe f (ordered opc p1 p2 f)
+    unfolding ordered orderedParameter
     safe-order w =
         by-choice (Safe f) (isGet opc) _ _ (λ _. tt)
         (λ g. by-choice (Safe f) (isSet opc) _ _ (λ s. set-length w g s)
@@ -95,8 +95,8 @@ module _ (f : List ℕ) where
       (λ _. or-refused (eqb (lenIn f) (lenFor opc p1 p2)) _ _ _
       (λ e. safe-parameter opc p1 p2 (record { known = known; channel = channel; measured = l ∙ ap (λ (n : ℕ). fieldAt + n) (eqb-true (lenIn f) (lenFor opc p1 p2) e) }) w))))
 
-  pub safe : Safe f (askedOf f)
-  unfolding askedOf
+  pub safe : Safe f (asked f)
+  unfolding asked
   safe =
       or-refused (eqb (length f) (fieldAt + lenIn f)) _ _ _
       (λ l. or-refused (opcKnown (opcIn f)) _ _ _
@@ -104,5 +104,5 @@ module _ (f : List ℕ) where
       (λ h. or-refused _ _ _ _ (λ _. safe-option (opcIn f) (p1In f) (p2In f) k h (eqb-true (length f) (fieldAt + lenIn f) l)))))
 
   -- the same of what it was found to ask
-  pub known : (asked : Asked) → askedOf f ≡ asked → Safe f asked
-  known asked e = subst (Safe f) e safe
+  pub known : (order : Order) → asked f ≡ order → Safe f order
+  known order e = subst (Safe f) e safe

@@ -10,8 +10,8 @@ use Rattle.card.specs.Numbers.{answered, frameForm, probeFault}
 use Rattle.card.specs.Reply.{WordsReply, Wrote, GaveWords}
 use Rattle.lucid.specs.Form.{fits, ok, errExecution}
 use Rattle.lucid.specs.Answer.{Values, Held, Failed, answerOf, told, done, read, obeyed, lucidWords}
-use Rattle.lucid.specs.Frame.{askedOf}
-use Rattle.lucid.specs.declared.frame.Asked.{Asked}
+use Rattle.lucid.specs.Frame.{asked}
+use Rattle.lucid.specs.declared.frame.Order.{Order}
 
 -- a reply known under another name
 pub given-as : {out out′ ws : List ℕ} {number len : ℕ} (r q : WordsReply) → r ≡ q → GaveWords r out number len ws out′ → GaveWords q out number len ws out′
@@ -41,7 +41,7 @@ module _ (ws memory f : List ℕ) where
   given-unframed out h = given-as _ _ (no _ _ _ _ h refl) (record { numbered = refl; measured = refl; written = sym (overlay-none out); worded = refl })
 
   -- what was asked, and was done
-  pub given-asked : {out out′ ws′ : List ℕ} {number len : ℕ} (asked : Asked) → fits (length f) ≡ true → askedOf f ≡ asked
-      → GaveWords (obeyed ws memory f asked) out number len ws′ out′ → GaveWords (lucidWords ws memory f) out number len ws′ out′
+  pub given-asked : {out out′ ws′ : List ℕ} {number len : ℕ} (order : Order) → fits (length f) ≡ true → asked f ≡ order
+      → GaveWords (obeyed ws memory f order) out number len ws′ out′ → GaveWords (lucidWords ws memory f) out number len ws′ out′
   unfolding lucidWords
-  given-asked asked h e = given-as _ _ (yes _ _ _ _ h (ap (obeyed ws memory f) (sym e)))
+  given-asked order h e = given-as _ _ (yes _ _ _ _ h (ap (obeyed ws memory f) (sym e)))

@@ -15,10 +15,10 @@ use Rattle.card.specs.declared.probe.Tenths.{Tenths}
 use Rattle.card.specs.declared.probe.Reading.{Reading}
 use Rattle.card.specs.declared.probe.Reading.the-variants.{Temperature, Fault}
 use Rattle.lucid.specs.Form.{fits, fieldAt, channelsOf, demand, tenths, demandSize, tenthsSize, hundredthsSize, parameterSize, ok, errExecution, little, numberAt}
-use Rattle.lucid.specs.Frame.{askedOf}
+use Rattle.lucid.specs.Frame.{asked}
 use Rattle.lucid.specs.declared.answer.Hundredths.{Hundredths}
-use Rattle.lucid.specs.declared.frame.Asked.{Asked}
-use Rattle.lucid.specs.declared.frame.Asked.the-variants.{Refused, GetIo, SetIo, GetParam, SetParam, Reset}
+use Rattle.lucid.specs.declared.frame.Order.{Order}
+use Rattle.lucid.specs.declared.frame.Order.the-variants.{Refused, GetIo, SetIo, GetParam, SetParam, Reset}
 
 -- what is read of channels: the bytes of their values one after another, or a failed probe
 pub data Values : Type 0 where
@@ -97,7 +97,7 @@ unfoldable pub reset : ℕ → Bool → List ℕ → List ℕ
 reset channel saved ws = stored (2 * channel + 1) saved floorDefault (stored (2 * channel) saved cycleDefault ws)
 
 -- what the card does with what is asked
-unfoldable pub obeyed : List ℕ → List ℕ → List ℕ → Asked → WordsReply
+unfoldable pub obeyed : List ℕ → List ℕ → List ℕ → Order → WordsReply
 obeyed ws memory f (Refused number status) = refused number status ws
 obeyed ws memory f (GetIo kind mask) = read ws (group (valueOf ws memory kind) (channelsOf mask))
 obeyed ws memory f (SetIo mask) = done (demanded (channelsOf mask) f fieldAt ws)
@@ -107,7 +107,7 @@ obeyed ws memory f (Reset channel saved) = done (reset channel saved ws)
 
 -- what the card does with a frame; one shorter than the shortest or longer than the longest is 3, silent
 unfoldable pub lucidWords : List ℕ → List ℕ → List ℕ → WordsReply
-lucidWords ws memory f = choose (fits (length f)) (obeyed ws memory f (askedOf f)) (record { number = frameForm; bytes = []; words = ws })
+lucidWords ws memory f = choose (fits (length f)) (obeyed ws memory f (asked f)) (record { number = frameForm; bytes = []; words = ws })
 
 -- the entry's whole meaning; room is the answer buffer's length
 unfoldable pub lucidReply : Card → ℕ → List ℕ → Reply

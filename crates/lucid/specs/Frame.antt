@@ -46,11 +46,11 @@ use Rattle.lucid.specs.Form.{
   invData,
   numberAt,
 }
-use Rattle.lucid.specs.declared.frame.Asked.{Asked}
-use Rattle.lucid.specs.declared.frame.Asked.the-variants.{Refused, GetIo, SetIo, GetParam, SetParam, Reset}
+use Rattle.lucid.specs.declared.frame.Order.{Order}
+use Rattle.lucid.specs.declared.frame.Order.the-variants.{Refused, GetIo, SetIo, GetParam, SetParam, Reset}
 
 -- a test, and the number and the status if it fails
-abbrev pub unless : Bool → ℕ → ℕ → Asked → Asked
+abbrev pub unless : Bool → ℕ → ℕ → Order → Order
 unless test number status rest = choose test rest (Refused number status)
 
 -- the fields of a frame
@@ -157,27 +157,27 @@ unfoldable pub placeOf : ℕ → ℕ → ℕ
 placeOf channel address = choose (eqb address cycleAddress) (2 * channel) (2 * channel + 1)
 
 -- what a frame that passed every test asks
-unfoldable pub parameterOrder : ℕ → ℕ → ℕ → List ℕ → Asked
-parameterOrder opc p1 p2 f =
+unfoldable pub orderedParameter : ℕ → ℕ → ℕ → List ℕ → Order
+orderedParameter opc p1 p2 f =
     choose (eqb opc getParam) (GetParam (placeOf p1 (addressIn f)))
     (SetParam (placeOf p1 (addressIn f)) (saves p2) (valueIn f))
 
-unfoldable pub orderOf : ℕ → ℕ → ℕ → List ℕ → Asked
-orderOf opc p1 p2 f =
+unfoldable pub ordered : ℕ → ℕ → ℕ → List ℕ → Order
+ordered opc p1 p2 f =
     choose (isGet opc) (GetIo p2 (maskOf opc p1))
     (choose (isSet opc) (SetIo (maskOf opc p1))
     (choose (isReset opc p2) (Reset p1 (saves p2))
-    (parameterOrder opc p1 p2 f)))
+    (orderedParameter opc p1 p2 f)))
 
 -- "parameter address (6, BAh); value (7, C0h)"
-unfoldable pub parameterAsked : ℕ → ℕ → ℕ → List ℕ → Asked
+unfoldable pub parameterAsked : ℕ → ℕ → ℕ → List ℕ → Order
 parameterAsked opc p1 p2 f =
     unless (addressKnown opc p2 f) rangeUnknown invParam
     (unless (valueRight opc p2 f) valueOutside invData
-    (orderOf opc p1 p2 f))
+    (ordered opc p1 p2 f))
 
 -- "type unknown (7, B6h), probe written (8, B6h), option .. (7, B4h); LEN for the command (3, B0h)"
-unfoldable pub optionAsked : ℕ → ℕ → ℕ → List ℕ → Asked
+unfoldable pub optionAsked : ℕ → ℕ → ℕ → List ℕ → Order
 optionAsked opc p1 p2 f =
     unless (typeKnown opc p2) valueOutside invValue
     (unless (typeWritable opc p2) readOnly invValue
@@ -187,8 +187,8 @@ optionAsked opc p1 p2 f =
 
 -- what a frame asks, if its length is that of a frame.
 -- "LEN against slice (3, B0h); OPC (5, A0h); channel above 3 (6, B8h) or mask 0 or above 0Fh (6, B2h)"
-unfoldable pub askedOf : List ℕ → Asked
-askedOf f =
+unfoldable pub asked : List ℕ → Order
+asked f =
     unless (eqb (length f) (fieldAt + lenIn f)) frameForm invLength
     (unless (opcKnown (opcIn f)) commandUnknown noSupport
     (unless (channelRight (opcIn f) (p1In f)) rangeUnknown invChannel

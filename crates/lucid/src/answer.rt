@@ -1,7 +1,7 @@
 // What the card answers to a LucidControl frame, and what its words become. Document 01, "LucidControl".
 use crate::form::Lucid;
-use crate::frame::Asked;
-use crate::frame::judge;
+use crate::frame::Order;
+use crate::frame::order_of;
 use crate::frame::pair;
 use card::Outcome;
 use card::layout::CHANNELS;
@@ -206,20 +206,20 @@ pub(crate) fn obey(words: &mut [u32], memory: &[u8], f: &[u8], out: &mut [u8]) -
             len: 0,
         };
     }
-    let asked = judge(f);
-    match asked {
-        Asked::Refused(number, status) => tell(out, number, status),
-        Asked::GetIo(kind, mask) => read_channels(words, memory, kind, mask, out),
-        Asked::GetParam(place) => read_parameter(words, place, out),
-        Asked::SetIo(mask) => {
+    let order = order_of(f);
+    match order {
+        Order::Refused(number, status) => tell(out, number, status),
+        Order::GetIo(kind, mask) => read_channels(words, memory, kind, mask, out),
+        Order::GetParam(place) => read_parameter(words, place, out),
+        Order::SetIo(mask) => {
             set_demands(words, mask, f);
             tell(out, ANSWERED, Lucid::OK)
         }
-        Asked::SetParam(place, saved, value) => {
+        Order::SetParam(place, saved, value) => {
             store(words, place as usize, saved, value);
             tell(out, ANSWERED, Lucid::OK)
         }
-        Asked::Reset(channel, saved) => {
+        Order::Reset(channel, saved) => {
             reset(words, channel as usize, saved);
             tell(out, ANSWERED, Lucid::OK)
         }

@@ -40,11 +40,11 @@ ghost use Rattle.lucid.specs.Frame.{
   inRange,
   valueRight,
   placeOf,
-  parameterOrder,
-  orderOf,
+  orderedParameter,
+  ordered,
   parameterAsked,
   optionAsked,
-  askedOf,
+  asked,
   lenIn,
   Sized,
 };
@@ -52,7 +52,7 @@ ghost use Rattle.lucid.specs.Frame.{
 // Where the value of SetParam stands.
 const VALUE: usize = Lucid::DATA + Lucid::ADDRESS_SIZE as usize;
 
-pub enum Asked {
+pub enum Order {
     // The number and the status.
     Refused(u8, u8),
     // A type, and the mask of the channels whose values are asked.
@@ -256,84 +256,84 @@ fn place_of(channel: u8, address: u32) -> u8
 }
 
 // What SetParam and GetParam ask, if they passed every test and reset nothing.
-fn parameter_order(opc: u8, p1: u8, p2: u8, f: &[u8]) -> Asked
+fn ordered_parameter(opc: u8, p1: u8, p2: u8, f: &[u8]) -> Order
     requires { ⌜ (p1 < channels) × ((fieldAt + addressSize ≤ length (now f)) × ((opc ≡ getParam → ⊥) → fieldAt + addressSize + parameterSize ≤ length (now f))) ⌝ }
-    ensures { λ r. ⌜ r ≡ parameterOrder opc p1 p2 (now (f .entry)) ⌝ }
+    ensures { λ r. ⌜ r ≡ orderedParameter opc p1 p2 (now (f .entry)) ⌝ }
 {
     let place = place_of(p1, pair(f, Lucid::DATA));
     if opc == Lucid::GET_PARAM {
-        return Asked::GetParam(place);
+        return Order::GetParam(place);
     }
-    Asked::SetParam(place, is_saved(p2), value_in(f))
+    Order::SetParam(place, is_saved(p2), value_in(f))
 }
 
 // What a frame that passed every test asks.
-fn order_of(opc: u8, p1: u8, p2: u8, f: &[u8]) -> Asked
+fn ordered(opc: u8, p1: u8, p2: u8, f: &[u8]) -> Order
     requires { ⌜ Sized opc p1 p2 (now f) ⌝ }
-    ensures { λ r. ⌜ r ≡ orderOf opc p1 p2 (now (f .entry)) ⌝ }
+    ensures { λ r. ⌜ r ≡ ordered opc p1 p2 (now (f .entry)) ⌝ }
 {
     if is_get(opc) {
-        return Asked::GetIo(p2, mask_of(opc, p1));
+        return Order::GetIo(p2, mask_of(opc, p1));
     }
     if is_set(opc) {
-        return Asked::SetIo(mask_of(opc, p1));
+        return Order::SetIo(mask_of(opc, p1));
     }
     if is_reset(opc, p2) {
-        return Asked::Reset(p1, is_saved(p2));
+        return Order::Reset(p1, is_saved(p2));
     }
-    parameter_order(opc, p1, p2, f)
+    ordered_parameter(opc, p1, p2, f)
 }
 
-fn parameter_asked(opc: u8, p1: u8, p2: u8, f: &[u8]) -> Asked
+fn parameter_asked(opc: u8, p1: u8, p2: u8, f: &[u8]) -> Order
     requires { ⌜ Sized opc p1 p2 (now f) ⌝ }
     ensures { λ r. ⌜ r ≡ parameterAsked opc p1 p2 (now (f .entry)) ⌝ }
 {
     if !address_known(opc, p2, f) {
-        return Asked::Refused(RANGE_UNKNOWN, Lucid::INV_PARAM);
+        return Order::Refused(RANGE_UNKNOWN, Lucid::INV_PARAM);
     }
     if !value_right(opc, p2, f) {
-        return Asked::Refused(VALUE_OUTSIDE, Lucid::INV_DATA);
+        return Order::Refused(VALUE_OUTSIDE, Lucid::INV_DATA);
     }
-    order_of(opc, p1, p2, f)
+    ordered(opc, p1, p2, f)
 }
 
-fn option_asked(opc: u8, p1: u8, p2: u8, f: &[u8]) -> Asked
+fn option_asked(opc: u8, p1: u8, p2: u8, f: &[u8]) -> Order
     requires { ⌜ (opcKnown opc ≡ true) × ((channelRight opc p1 ≡ true) × (length (now f) ≡ fieldAt + lenIn (now f))) ⌝ }
     ensures { λ r. ⌜ r ≡ optionAsked opc p1 p2 (now (f .entry)) ⌝ }
 {
     if !type_known(opc, p2) {
-        return Asked::Refused(VALUE_OUTSIDE, Lucid::INV_VALUE);
+        return Order::Refused(VALUE_OUTSIDE, Lucid::INV_VALUE);
     }
     if !type_writable(opc, p2) {
-        return Asked::Refused(READ_ONLY, Lucid::INV_VALUE);
+        return Order::Refused(READ_ONLY, Lucid::INV_VALUE);
     }
     if !option_right(opc, p2) {
-        return Asked::Refused(VALUE_OUTSIDE, Lucid::INV_P2);
+        return Order::Refused(VALUE_OUTSIDE, Lucid::INV_P2);
     }
     if f[Lucid::LEN] != len_for(opc, p1, p2) {
-        return Asked::Refused(FRAME_FORM, Lucid::INV_LENGTH);
+        return Order::Refused(FRAME_FORM, Lucid::INV_LENGTH);
     }
     parameter_asked(opc, p1, p2, f)
 }
 
 // What a frame asks, if its length is that of a frame.
-pub(crate) fn judge(f: &[u8]) -> Asked
+pub(crate) fn order_of(f: &[u8]) -> Order
     requires { ⌜ shortest ≤ length (now f) ⌝ }
-    ensures { λ r. ⌜ r ≡ askedOf (now (f .entry)) ⌝ }
+    ensures { λ r. ⌜ r ≡ asked (now (f .entry)) ⌝ }
 {
     let opc = f[Lucid::OPC];
     let p1 = f[Lucid::P1];
     if f.len() != Lucid::DATA + f[Lucid::LEN] as usize {
-        return Asked::Refused(FRAME_FORM, Lucid::INV_LENGTH);
+        return Order::Refused(FRAME_FORM, Lucid::INV_LENGTH);
     }
     if !opc_known(opc) {
-        return Asked::Refused(COMMAND_UNKNOWN, Lucid::NO_SUPPORT);
+        return Order::Refused(COMMAND_UNKNOWN, Lucid::NO_SUPPORT);
     }
     if !channel_right(opc, p1) {
-        return Asked::Refused(RANGE_UNKNOWN, Lucid::INV_CHANNEL);
+        return Order::Refused(RANGE_UNKNOWN, Lucid::INV_CHANNEL);
     }
     if !mask_right(opc, p1) {
-        return Asked::Refused(RANGE_UNKNOWN, Lucid::INV_P1);
+        return Order::Refused(RANGE_UNKNOWN, Lucid::INV_P1);
     }
     option_asked(opc, p1, f[Lucid::P2], f)
 }

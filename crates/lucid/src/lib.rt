@@ -1,7 +1,7 @@
 // The LucidControl dialect: what a frame asks, what the card answers, and the entry. Document 01, "LucidControl".
-pub mod answer;
+mod answer;
 pub mod form;
-pub mod frame;
+mod frame;
 
 use card::Outcome;
 use card::ROOM_LEAST;

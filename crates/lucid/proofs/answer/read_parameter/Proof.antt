@@ -1,7 +1,8 @@
 -- `lucid::answer::read_parameter` meets its contract. Assumes nothing.
-use Rattle.lucid.proofs.Bytes.{length-little, wrote-as}
+use Rattle.lucid.proofs.Bytes.{length-little}
 use Rattle.lucid.specs.Answer.{answerOf}
 use mathlib.Core.Path.{ap}
+use Rattle.card.proofs.Replies.{wrote-as}
 use native.Mathlib.Omega.{arith}
 use borrow.Author.Needs.{needs}
 use Rattle.lucid.proofs.answer.read_parameter.Statement.{statement}

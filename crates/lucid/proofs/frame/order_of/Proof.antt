@@ -1,62 +1,78 @@
 -- `lucid::frame::order_of` meets its contract, test by test. Assumes nothing.
-use mathlib.Core.Path.{_≡_, refl, sym, ap, _∙_}
-use Rattle.lucid.specs.declared.frame.Asked.the-variants.{SetIo, Reset}
-use Rattle.lucid.proofs.Lengths.{parameter-within}
-use Rattle.lucid.specs.Frame.{orderOf}
-use Rattle.wire.proofs.Cases.{cases, told-false}
+use native.Mathlib.Omega.{arith}
+use Rattle.lucid.specs.Frame.{asked}
+use Rattle.wire.proofs.Cases.{cases, told-yes}
 use borrow.Author.Needs.{needs}
 use Rattle.lucid.proofs.frame.order_of.Statement.{statement}
 use Rattle.lucid.proofs.frame.order_of.Tie as tie
 
-is-get-requires : tie.Need-is-get-requires
-is-get-requires c κs = search needs
+shared-slice-read-opc : tie.Need-shared-slice-read-opc
+shared-slice-read-opc c = search needs
 
-mask-of-requires : tie.Need-mask-of-requires
-mask-of-requires c κs = search needs
+shared-slice-read-p1 : tie.Need-shared-slice-read-p1
+shared-slice-read-p1 c = search needs
+
+shared-slice-read-if1 : tie.Need-shared-slice-read-if1
+shared-slice-read-if1 c = search needs
+
+cast-if1 : tie.Need-cast-if1
+cast-if1 c = omega (arith, c .shared-slice-known4 .given 3)
+
+add-if1 : tie.Need-add-if1
+add-if1 c = omega (arith, c .shared-slice-known4 .given 3)
 
 returns : tie.Need-returns
-unfolding orderOf
+unfolding asked
 returns c = search cases
 
-is-set-requires : tie.Need-is-set-requires
-is-set-requires c κs = search needs
-
-mask-of-requires-2 : tie.Need-mask-of-requires-2
-mask-of-requires-2 c κs = search needs
+opc-known-requires : tie.Need-opc-known-requires
+opc-known-requires c κs = search needs
 
 returns-2 : tie.Need-returns-2
-unfolding orderOf
-returns-2 c = ap SetIo (c .mask-of2 .ensures) ∙ search cases
+unfolding asked
+returns-2 c = search cases
 
-is-reset-requires : tie.Need-is-reset-requires
-is-reset-requires c κs = search needs
-
-is-saved-requires : tie.Need-is-saved-requires
-is-saved-requires c κs = search needs
+channel-right-requires : tie.Need-channel-right-requires
+channel-right-requires c κs = search needs
 
 returns-3 : tie.Need-returns-3
-unfolding orderOf
-returns-3 c = ap (Reset (c .before .before .before .before .before .before .before .before .args .p1)) (c .is-saved .ensures) ∙ search cases
+unfolding asked
+returns-3 c = search cases
 
-parameter-order-requires : tie.Need-parameter-order-requires
-parameter-order-requires c κs = parameter-within _ _ _ _ (c .before .before .before .before .before .before .before .pre) (told-false (c .before .before .before .before .before .is-get .ensures) (c .before .before .before .before .if1 .left)) (told-false (c .before .before .before .is-set .ensures) (c .before .before .if2 .left)) (told-false (c .before .is-reset .ensures) (c .if3 .left))
+mask-right-requires : tie.Need-mask-right-requires
+mask-right-requires c κs = search needs
 
 returns-4 : tie.Need-returns-4
-unfolding orderOf
+unfolding asked
 returns-4 c = search cases
+
+shared-slice-read-option-asked : tie.Need-shared-slice-read-option-asked
+shared-slice-read-option-asked c = search needs
+
+option-asked-requires : tie.Need-option-asked-requires
+option-asked-requires c κs = let tested = c .before .before .before in
+    (told-yes (tested .before .before .before .opc-known .ensures) (tested .before .before .if2 .left), (told-yes (tested .before .channel-right .ensures) (tested .if3 .left), tested .before .before .before .before .if1 .left))
+
+returns-5 : tie.Need-returns-5
+unfolding asked
+returns-5 c = search cases
 
 pub order-of-spec : {M : Type 1} → statement M
 order-of-spec =
     tie.close
     (tie.spec
-    is-get-requires
-    mask-of-requires
+    shared-slice-read-opc
+    shared-slice-read-p1
+    shared-slice-read-if1
+    cast-if1
+    add-if1
     returns
-    is-set-requires
-    mask-of-requires-2
+    opc-known-requires
     returns-2
-    is-reset-requires
-    is-saved-requires
+    channel-right-requires
     returns-3
-    parameter-order-requires
-    returns-4)
+    mask-right-requires
+    returns-4
+    shared-slice-read-option-asked
+    option-asked-requires
+    returns-5)

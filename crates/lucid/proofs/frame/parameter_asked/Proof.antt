@@ -20,8 +20,8 @@ returns-2 : tie.Need-returns-2
 unfolding parameterAsked
 returns-2 c = search cases
 
-order-of-requires : tie.Need-order-of-requires
-order-of-requires c κs = search needs
+ordered-requires : tie.Need-ordered-requires
+ordered-requires c κs = search needs
 
 returns-3 : tie.Need-returns-3
 unfolding parameterAsked
@@ -35,5 +35,5 @@ parameter-asked-spec =
     returns
     value-right-requires
     returns-2
-    order-of-requires
+    ordered-requires
     returns-3)

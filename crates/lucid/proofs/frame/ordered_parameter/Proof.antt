@@ -1,12 +1,12 @@
--- `lucid::frame::parameter_order` meets its contract, test by test. Assumes nothing.
+-- `lucid::frame::ordered_parameter` meets its contract, test by test. Assumes nothing.
 use borrow.Author.Tests.{ne-eqb}
 use mathlib.Core.Path.{_≡_, refl, sym, ap, _∙_}
-use Rattle.lucid.specs.declared.frame.Asked.the-variants.{GetParam}
-use Rattle.lucid.specs.Frame.{placeOf, parameterOrder}
+use Rattle.lucid.specs.declared.frame.Order.the-variants.{GetParam}
+use Rattle.lucid.specs.Frame.{placeOf, orderedParameter}
 use Rattle.wire.proofs.Cases.{cases, no}
 use borrow.Author.Needs.{needs}
-use Rattle.lucid.proofs.frame.parameter_order.Statement.{statement}
-use Rattle.lucid.proofs.frame.parameter_order.Tie as tie
+use Rattle.lucid.proofs.frame.ordered_parameter.Statement.{statement}
+use Rattle.lucid.proofs.frame.ordered_parameter.Tie as tie
 
 pair-requires : tie.Need-pair-requires
 pair-requires c κs = search needs
@@ -15,7 +15,7 @@ place-of-requires : tie.Need-place-of-requires
 place-of-requires c κs = search needs
 
 returns : tie.Need-returns
-unfolding parameterOrder
+unfolding orderedParameter
 returns c = ap GetParam (c .before .place-of .ensures ∙ ap (placeOf _) (c .before .before .pair .ensures .0)) ∙ search cases
 
 is-saved-requires : tie.Need-is-saved-requires
@@ -25,12 +25,12 @@ value-in-requires : tie.Need-value-in-requires
 value-in-requires c κs = c .before .before .before .before .before .pre .1 .1 (c .before .if1 .left)
 
 returns-2 : tie.Need-returns-2
-unfolding parameterOrder
+unfolding orderedParameter
 returns-2 c = let place = c .before .before .before .place-of .ensures ∙ ap (placeOf _) (c .before .before .before .before .pair .ensures .0) in
     no _ _ _ _ (ne-eqb _ _ (c .before .before .if1 .left)) (cc (place, c .before .is-saved .ensures, c .value-in .ensures))
 
-pub parameter-order-spec : {M : Type 1} → statement M
-parameter-order-spec =
+pub ordered-parameter-spec : {M : Type 1} → statement M
+ordered-parameter-spec =
     tie.close
     (tie.spec
     pair-requires
