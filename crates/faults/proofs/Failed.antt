@@ -30,10 +30,10 @@ use Rattle.love.specs.declared.frame.Order.{Order as LoveOrder}
 use Rattle.love.specs.declared.frame.Order.the-variants.{Silent, Refused as LoveRefused, Probe, Read as LoveRead, Write as LoveWrite}
 use Rattle.love.proofs.Laws.{fault as love-fault}
 use Rattle.lucid.specs.Form.{demand, fits, channelsOf, errExecution}
-use Rattle.lucid.specs.Frame.{askedOf}
+use Rattle.lucid.specs.Frame.{asked as lucidAsked}
 use Rattle.lucid.specs.Answer.{Values, Held, Failed, joined, group, readingIn, valueOf, read, refused, obeyed as lucidObeyed, lucidWords, lucidReply}
-use Rattle.lucid.specs.declared.frame.Asked.{Asked}
-use Rattle.lucid.specs.declared.frame.Asked.the-variants.{Refused as LucidRefused, GetIo, SetIo, GetParam, SetParam, Reset}
+use Rattle.lucid.specs.declared.frame.Order.{Order as LucidOrder}
+use Rattle.lucid.specs.declared.frame.Order.the-variants.{Refused as LucidRefused, GetIo, SetIo, GetParam, SetParam, Reset}
 use Rattle.faults.specs.NoTemperature.{SameAnswer, NoTemperature, lecomFault, loveFault, lucidFault}
 
 -- another code does not change which card is fit, so an answer over the words alone passes the shell in the same way
@@ -114,7 +114,7 @@ module _ (channel code : ℕ) (words memory : List ℕ) where
       ⊎-elim (λ d. inl (ap (joined (valueOf words memory kind k)) d ∙ joined-failed (valueOf words memory kind k))) (λ d. inr (ap₂ joined e d)) (lucid-group failed kind ks))
       (lucid-value failed kind k)
 
-  lucid-either : getD memory channel 0 ≡ faultCode → (f : List ℕ) (o : Asked) → (lucidObeyed words memory f o ≡ refused probeFault errExecution words) ⊎ (lucidObeyed words memory f o ≡ lucidObeyed words (set memory channel code) f o)
+  lucid-either : getD memory channel 0 ≡ faultCode → (f : List ℕ) (o : LucidOrder) → (lucidObeyed words memory f o ≡ refused probeFault errExecution words) ⊎ (lucidObeyed words memory f o ≡ lucidObeyed words (set memory channel code) f o)
   unfolding lucidObeyed read
   lucid-either failed f (LucidRefused number status) = inr refl
   lucid-either failed f (GetIo kind mask) =
@@ -129,7 +129,7 @@ module _ (channel code : ℕ) (words memory : List ℕ) where
   lucid-words failed f = by (fits (length f)) refl
     where
       by : (t : Bool) → fits (length f) ≡ t → (lucidWords words memory f ≡ refused probeFault errExecution words) ⊎ (lucidWords words memory f ≡ lucidWords words (set memory channel code) f)
-      by true e = ⊎-elim (λ d. inl (rw e d)) (λ d. inr (rw e d)) (lucid-either failed f (askedOf f))
+      by true e = ⊎-elim (λ d. inl (rw e d)) (λ d. inr (rw e d)) (lucid-either failed f (lucidAsked f))
       by false e = inr (rw e)
 
 no-degrees : (card : Card) (channel : ℕ) → getD (card .memory) channel 0 ≡ faultCode → valuesOf (governorOf card channel) ≡ []

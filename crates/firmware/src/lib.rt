@@ -114,7 +114,6 @@ pub extern "C" fn nk_love(
 }
 
 #[no_mangle]
-<<<<<<< HEAD
 pub extern "C" fn nk_lucid(
     words: &mut [u32],
     memory: &[u8],
@@ -131,8 +130,6 @@ pub extern "C" fn nk_lucid(
 }
 
 #[no_mangle]
-=======
->>>>>>> 5d81930c24a0aed60c95b1dc338c322cc5cb9a64
 pub extern "C" fn nk_write_image(
     words: &[u32],
     memory: &[u8],

@@ -2,4 +2,3 @@ pub mod Places
 pub mod Writes
 pub mod Orders
 pub mod Laws
-pub mod Examples
