@@ -1,7 +1,7 @@
 // The Love dialect. Document 01, "Love"; source document 004.
-pub mod answer;
+mod answer;
 pub mod form;
-pub mod frame;
+mod frame;
 
 use card::Outcome;
 use card::ROOM_LEAST;
