@@ -45,6 +45,7 @@ positive = 0x00
 abbrev pub negative : ℕ
 negative = 0x01
 
+-- the sign of a word in the reply to a read
 unfoldable pub signOf : ℕ → ℕ
 signOf word = choose (isNegative word) negative positive
 

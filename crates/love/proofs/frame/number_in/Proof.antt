@@ -1,9 +1,10 @@
 -- `love::frame::number_in` meets its contract: four decimal figures hold less than 2^32. Assumes nothing.
 use mathlib.Core.Path.{_≡_}
 use native.Mathlib.Omega.{arith}
-use lib.ListN.{length, length-take, length-drop}
+use lib.ListN.{length}
 use borrow.Author.Needs.{needs}
 use Rattle.wire.specs.Buffer.{part}
+use Rattle.wire.proofs.Buffers.{length-part}
 use Rattle.figures.proofs.Decimals.{value-below}
 use Rattle.love.specs.Frame.{numberIn, valueAt, signAt}
 use Rattle.love.proofs.frame.number_in.Statement.{statement}
@@ -27,7 +28,7 @@ byte-at-requires c κs = search needs
 cast-with-sign : tie.Need-cast-with-sign
 cast-with-sign c =
     let field = c .before .before .before .before .args .field .now in
-    let e : length (part field valueAt signAt) ≡ 4 = simp (length-take, length-drop) (omega arith) in
+    let e : length (part field valueAt signAt) ≡ 4 = length-part field valueAt signAt (omega arith) (omega arith) in
     omega (arith, c .before .value .ensures, rw e at (value-below (part field valueAt signAt) (c .before .before .before .before .pre .1)))
 
 with-sign-requires : tie.Need-with-sign-requires
