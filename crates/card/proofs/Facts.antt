@@ -1,48 +1,19 @@
 -- From a test that passed to the plain facts of specs/Fit.antt. Assumes nothing.
-use mathlib.Core.Path.{_≡_, refl, sym, ap, _∙_, subst}
-use mathlib.Core.Bool.{Bool, true, false, _&&_, _||_, not}
+use mathlib.Core.Path.{_≡_, refl, _∙_, subst}
+use mathlib.Core.Bool.{Bool, true, false, _&&_, not}
 use mathlib.Core.List.{List, [], _∷_}
-use Prim.Native.Nat.{ℕ, zero, suc, _+_, _-_, _%_, _/_, _≤_, _<_}
+use Prim.Native.Nat.{ℕ, zero, suc, _+_, _-_, _%_, _≤_, _<_}
 use native.Mathlib.Nat.{not-suc-le-zero, le-of-suc-le-suc}
 use native.Mathlib.Omega.{arith}
 use borrow.Author.Tests.{leb-true, eqb-true}
-use lib.Dec.{leb, eqb, ltb}
-use lib.ListN.{length, getD, take, drop, set, length-take, length-drop}
+use lib.Dec.{leb, eqb}
+use lib.ListN.{length, getD, drop, set, length-take, length-drop}
 use lib.Seq.{getD-take, getD-drop}
 use Rattle.wire.specs.Choose.{choose}
 use Rattle.wire.specs.Buffer.{part}
 use Rattle.wire.specs.Word.{minus}
-use Rattle.wire.proofs.Cases.{by-choice}
-use Rattle.card.specs.Layout.{
-  Card,
-  iaAt,
-  lecomAddressAt,
-  loveAddressAt,
-  loveAt,
-  demandsAt,
-  parametersAt,
-  bufferAt,
-  wordCount,
-  memorySize,
-  pendingSize,
-}
-use Rattle.card.specs.Tables.{
-  inSpan,
-  allIn,
-  fitPending,
-  fitAddresses,
-  fitParameters,
-  fitWords,
-  fit,
-  iaMost,
-  lecomLeast,
-  lecomMost,
-  loveMost,
-  loveLeast,
-  loveHighest,
-  demandMost,
-  registerMost,
-}
+use Rattle.card.specs.Layout.{Card, iaAt, lecomAddressAt, loveAddressAt, loveAt, demandsAt, parametersAt, bufferAt, wordCount, memorySize, pendingSize}
+use Rattle.card.specs.Tables.{inSpan, allIn, fitPending, fitAddresses, fitParameters, fitWords, fit, iaMost, lecomLeast, lecomMost, loveMost, loveLeast, loveHighest, demandMost, registerMost}
 use Rattle.card.specs.Fit.{Fit}
 
 pub and-true : (a b : Bool) → (a && b) ≡ true → (a ≡ true) × (b ≡ true)

@@ -1,7 +1,7 @@
 -- The governor's degrees: the f32 arithmetic of the code gives, bit for bit, the number (code − 80) / 2, at each of the 255 temperature codes.
 -- Rests on the kit's lib.Ieee for what f32 arithmetic is. Assumes nothing.
 use Prim.Native.Nat.{ℕ, _*_, _-_, _<_}
-use mathlib.Core.Path.{_≡_, refl, ap}
+use mathlib.Core.Path.{_≡_, refl}
 use mathlib.Core.Bool.{Bool, true, false, not, cond}
 use lib.IntN.{pos}
 use lib.Dec.{T, eqb, eqb→eq, ltb}

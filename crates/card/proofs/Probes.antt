@@ -2,15 +2,14 @@
 use Prim.Native.Nat.{ℕ, _*_, _<_}
 use mathlib.Core.Path.{_≡_, refl}
 use mathlib.Core.Bool.{Bool, true, false}
-use lib.IntN.{ℤ, subℕ}
-use lib.Dec.{T, eqb}
+use lib.IntN.{subℕ}
+use lib.Dec.{T}
 use mir.Syntax.{w32}
 use mir.Val.{toZ}
 use borrow.Author.Tests.{ne-eqb}
 use native.Mathlib.Omega.{arith}
 use Rattle.wire.specs.Choose.{choose}
 use Rattle.wire.specs.Word.{minus}
-use Rattle.wire.proofs.Cases.{no}
 use Rattle.card.specs.Tables.{inSpan}
 use Rattle.card.specs.Probe.{faultCode, tenthsPerCode, tenthsBelow, tenthsOf, readingOf}
 use Rattle.card.specs.declared.probe.Reading.the-variants.{Temperature, Fault}

@@ -1,12 +1,11 @@
 -- Laws of specs/Reply.antt: what an entry that stops early has given, and that a refusal changes nothing. Assumes nothing.
 use mathlib.Core.Path.{_≡_, refl, sym, ap, _∙_, subst}
-use mathlib.Core.Bool.{Bool, true, false}
-use mathlib.Core.List.{List, []}
+use mathlib.Core.Bool.{true, false}
+use mathlib.Core.List.{List}
 use Prim.Native.Nat.{ℕ, _≤_, _<_}
 use borrow.Author.Tests.{le-leb, lt-leb}
 use lib.Dec.{leb}
 use lib.ListN.{length}
-use Rattle.wire.specs.Choose.{choose}
 use Rattle.wire.specs.Buffer.{overlay}
 use Rattle.wire.proofs.Cases.{yes, no, by-choice}
 use Rattle.wire.proofs.Buffers.{overlay-none}

@@ -1,6 +1,6 @@
 -- The entries that set a probe code and restart. Document 01, "What the card holds", last part.
-use Prim.Native.Nat.{ℕ, _+_}
-use mathlib.Core.List.{List, [], _∷_}
+use Prim.Native.Nat.{ℕ}
+use mathlib.Core.List.{List}
 use lib.Dec.{ltb}
 use lib.ListN.{replicate, set}
 use Rattle.wire.specs.Choose.{choose}

@@ -1,25 +1,11 @@
 -- What is known of a fit card, as plain facts for the functions that work on one.
 use mathlib.Core.Path.{_≡_}
 use mathlib.Core.Bool.{true}
-use Prim.Native.Nat.{ℕ, _+_, _≤_, _<_, _%_}
+use Prim.Native.Nat.{ℕ, _+_, _≤_, _<_}
 use lib.ListN.{length, getD}
 use Rattle.wire.specs.Word.{minus}
-use Rattle.card.specs.Layout.{
-  Card,
-  iaAt,
-  lecomAddressAt,
-  loveAddressAt,
-  loveAt,
-  loveCount,
-  demandsAt,
-  channels,
-  bufferAt,
-  registers,
-  wordCount,
-  memorySize,
-  pendingSize,
-}
-use Rattle.card.specs.Tables.{inSpan, fitPending, fitParameters, iaMost, lecomLeast, lecomMost, loveMost, loveLeast, loveHighest, demandMost, registerMost}
+use Rattle.card.specs.Layout.{Card, iaAt, lecomAddressAt, loveAddressAt, loveAt, loveCount, demandsAt, channels, bufferAt, registers, wordCount, memorySize, pendingSize}
+use Rattle.card.specs.Tables.{inSpan, fitPending, iaMost, lecomLeast, lecomMost, loveMost, loveLeast, loveHighest, demandMost, registerMost}
 
 pub record Fit (card : Card) : Type 0 where
   pub words-length : length (card .words) ≡ wordCount

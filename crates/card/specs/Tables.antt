@@ -3,28 +3,11 @@ use Prim.Native.Nat.{ℕ, _+_, _*_, _%_, _/_}
 use mathlib.Core.Bool.{Bool, true, _&&_, _||_, not}
 use mathlib.Core.List.{List, [], _∷_}
 use lib.Dec.{leb, ltb, eqb}
-use lib.ListN.{length, getD, drop}
+use lib.ListN.{length, getD}
 use Rattle.wire.specs.Choose.{choose}
 use Rattle.wire.specs.Buffer.{part}
 use Rattle.wire.specs.Word.{minus}
-use Rattle.card.specs.Layout.{
-  Card,
-  iaAt,
-  lecomAddressAt,
-  loveAddressAt,
-  loveAt,
-  demandsAt,
-  parametersAt,
-  bufferAt,
-  wordCount,
-  memorySize,
-  kindAt,
-  numAt,
-  lowAddressAt,
-  highAddressAt,
-  dataMost,
-  pendingSize,
-}
+use Rattle.card.specs.Layout.{Card, iaAt, lecomAddressAt, loveAddressAt, loveAt, demandsAt, parametersAt, bufferAt, wordCount, memorySize, kindAt, numAt, lowAddressAt, highAddressAt, dataMost, pendingSize}
 
 -- the word x lies from lo to hi; a lower end above the upper one is a negative number in two's complement
 unfoldable pub inSpan : ℕ → ℕ → ℕ → Bool

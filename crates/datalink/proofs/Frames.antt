@@ -1,45 +1,20 @@
 -- What a frame that passed the tests of specs/Frame.antt is known to hold. Assumes nothing.
 use mathlib.Core.Path.{_≡_, refl, sym, ap, _∙_, subst}
-use mathlib.Core.Bool.{Bool, true, false, _&&_, _||_, not}
+use mathlib.Core.Bool.{Bool, true, false, not}
 use mathlib.Core.List.{List}
 use Prim.{Unit, tt}
-use Prim.Native.Nat.{ℕ, _+_, _%_, _/_, _*_, _≤_, _<_}
+use Prim.Native.Nat.{ℕ, _+_, _≤_, _<_}
 use native.Mathlib.Omega.{arith}
 use borrow.Author.Tests.{leb-true, eqb-true, eqb-false, ne-eqb}
 use lib.Dec.{leb, eqb, lit≤}
-use lib.ListN.{length, getD}
+use lib.ListN.{length}
 use Rattle.wire.specs.Choose.{choose}
 use Rattle.wire.proofs.Cases.{by-choice, no}
 use Rattle.card.specs.Numbers.{foreignAddress, frameForm, checkCharacter, commandUnknown, rangeUnknown, readOnly}
 use Rattle.card.specs.Layout.{dataMost}
 use Rattle.card.specs.Tables.{noChange, change, changeBits, named, numRight, inMemory, namesReadOnly, echoable, memoryStart, memoryEnd}
 use Rattle.card.proofs.Facts.{and-true}
-use Rattle.datalink.specs.Frame.{
-  shortest,
-  longest,
-  start,
-  bareSize,
-  acknowledgeBits,
-  changeCommandBits,
-  changeBitsBits,
-  carried,
-  kindOf,
-  commandIn,
-  numIn,
-  addressIn,
-  kindIn,
-  namedIn,
-  isAcknowledge,
-  lengthRight,
-  formRight,
-  lrcRight,
-  rangeRight,
-  changeAllowed,
-  changeRight,
-  orderIn,
-  unless,
-  asked,
-}
+use Rattle.datalink.specs.Frame.{shortest, longest, bareSize, acknowledgeBits, changeCommandBits, changeBitsBits, carried, kindOf, commandIn, numIn, addressIn, kindIn, namedIn, isAcknowledge, lengthRight, formRight, rangeRight, changeAllowed, changeRight, orderIn, unless, asked}
 use Rattle.datalink.specs.declared.frame.Order.{Order}
 use Rattle.datalink.specs.declared.frame.Order.the-variants.{Refused, Interrogate, Change, Acknowledge}
 

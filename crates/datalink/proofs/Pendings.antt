@@ -1,17 +1,17 @@
 -- A pending change: what is known of one on a fit card, and what storing one leaves. Assumes nothing.
-use mathlib.Core.Path.{_≡_, refl, sym, ap, _∙_}
-use mathlib.Core.Bool.{Bool, true, false, _||_, not}
+use mathlib.Core.Path.{_≡_, ap, _∙_}
+use mathlib.Core.Bool.{true}
 use mathlib.Core.List.{List, [], _∷_}
-use Prim.Native.Nat.{ℕ, _+_, _*_, _/_, _≤_, _<_}
+use Prim.Native.Nat.{ℕ, _+_, _/_, _≤_}
 use native.Mathlib.Omega.{arith}
-use borrow.Author.Tests.{ne-eqb, eqb-true, eqb-false}
+use borrow.Author.Tests.{ne-eqb, eqb-false}
 use lib.Dec.{leb, eqb}
 use lib.ListN.{length, getD, set}
 use Rattle.wire.specs.Buffer.{put, overlay}
 use Rattle.wire.proofs.Cases.{by-choice}
 use Rattle.wire.proofs.Buffers.{overlay-sets, overlay-put}
 use Rattle.card.specs.Layout.{kindAt, numAt, lowAddressAt, highAddressAt, dataMost}
-use Rattle.card.specs.Tables.{noChange, changeBits, named, numRight, inMemory, namesReadOnly, addressOf, echoable, fitPending, memoryStart, memoryEnd}
+use Rattle.card.specs.Tables.{noChange, changeBits, named, numRight, inMemory, addressOf, echoable, fitPending, memoryStart, memoryEnd}
 use Rattle.card.proofs.Facts.{and-true}
 use Rattle.datalink.proofs.Frames.{memory-facts, num-most}
 

@@ -1,5 +1,5 @@
 -- Each order's reply, from what the functions that carry it out ensure. Assumes nothing.
-use mathlib.Core.Path.{_≡_, refl, sym, ap, _∙_, subst}
+use mathlib.Core.Path.{_≡_, refl, subst}
 use mathlib.Core.List.{List, _∷_, _++_}
 use Prim.Native.Nat.{ℕ, _+_, _-_}
 use native.Mathlib.Omega.{arith}
@@ -9,7 +9,7 @@ use Rattle.wire.specs.Buffer.{overlay, part}
 use Rattle.wire.proofs.Cases.{by-choice}
 use Rattle.card.specs.Layout.{Card, kindAt}
 use Rattle.card.specs.Tables.{memoryStart, noChange}
-use Rattle.card.specs.Reply.{Reply, silent, Gave, Did, Wrote, Keeps, roomLeast}
+use Rattle.card.specs.Reply.{Gave, Did, Wrote, Keeps, roomLeast}
 use Rattle.card.specs.Numbers.{answered, nothingPending}
 use Rattle.card.proofs.Replies.{gave-silent, gave-did, keeps-silent, shell-keeps}
 use Rattle.datalink.specs.Frame.{numPlace, dataPlace, asked}

@@ -1,7 +1,7 @@
 -- What a Datalink frame asks. Document 01, "Datalink", with source document 003:
 -- 7Eh; command bits plus I.A.; NUM; low address; high address; data; LRC.
 use Prim.Native.Nat.{ℕ, _+_, _-_, _*_, _%_, _/_}
-use mathlib.Core.Bool.{Bool, true, _&&_, _||_, not}
+use mathlib.Core.Bool.{Bool, _&&_, _||_, not}
 use mathlib.Core.List.{List, [], _∷_, _++_}
 use lib.Dec.{leb, eqb}
 use lib.ListN.{length, getD}

@@ -1,11 +1,11 @@
 -- The theorem of specs/NoTemperature.antt, dialect by dialect. Assumes nothing.
-use Prim.Native.Nat.{ℕ, _+_, _-_, _≤_, _<_}
+use Prim.Native.Nat.{ℕ, _+_, _-_, _<_}
 use mathlib.Core.Path.{_≡_, refl, sym, ap, ap₂, _∙_}
 use mathlib.Core.Bool.{Bool, true, false}
 use mathlib.Core.Logic.{_⊎_, inl, inr, ⊎-elim}
 use mathlib.Core.List.{List, [], _∷_}
 use native.Mathlib.Omega.{arith}
-use borrow.Author.Tests.{eqb-true, eqb-false, eq-eqb, ne-eqb, ltb-false}
+use borrow.Author.Tests.{eqb-true, eqb-false, ltb-false}
 use lib.Dec.{eqb, ltb, leb}
 use lib.ListN.{length, getD, set, length-set}
 use lib.Seq.{getD-set-other}
@@ -19,13 +19,13 @@ use Rattle.card.specs.Governor.{governorOf, toldOf, valuesOf}
 use Rattle.card.specs.Numbers.{bufferShort, cardUnfit, probeFault}
 use Rattle.card.specs.Reply.{WordsReply, onWords, silent, shell, roomLeast}
 use Rattle.card.specs.declared.governor.Governor.{Governor}
-use Rattle.lecom.specs.Frame.{firstProbe, probesEnd, asked as lecomAsked}
+use Rattle.lecom.specs.Frame.{firstProbe, asked as lecomAsked}
 use Rattle.lecom.specs.Answer.{leaving, readAnswer, obeyed as lecomObeyed, addressOf as lecomAddress, lecomReply}
 use Rattle.lecom.specs.declared.frame.Order.{Order as LecomOrder}
 use Rattle.lecom.specs.declared.frame.Order.the-variants.{Unheard, Refused as LecomRefused, Read as LecomRead, Write as LecomWrite}
 use Rattle.lecom.proofs.Laws.{fault as lecom-fault}
 use Rattle.love.specs.Frame.{asked as loveAsked}
-use Rattle.love.specs.Answer.{normalReply, probeField, obeyed as loveObeyed, addressOf, loveReply}
+use Rattle.love.specs.Answer.{obeyed as loveObeyed, addressOf, loveReply}
 use Rattle.love.specs.declared.frame.Order.{Order as LoveOrder}
 use Rattle.love.specs.declared.frame.Order.the-variants.{Silent, Refused as LoveRefused, Probe, Read as LoveRead, Write as LoveWrite}
 use Rattle.love.proofs.Laws.{fault as love-fault}
@@ -34,7 +34,7 @@ use Rattle.lucid.specs.Frame.{asked as lucidAsked}
 use Rattle.lucid.specs.Answer.{Values, Held, Failed, joined, group, readingIn, valueOf, read, refused, obeyed as lucidObeyed, lucidWords, lucidReply}
 use Rattle.lucid.specs.declared.frame.Order.{Order as LucidOrder}
 use Rattle.lucid.specs.declared.frame.Order.the-variants.{Refused as LucidRefused, GetIo, SetIo, GetParam, SetParam, Reset}
-use Rattle.faults.specs.NoTemperature.{SameAnswer, NoTemperature, lecomFault, loveFault, lucidFault}
+use Rattle.faults.specs.NoTemperature.{SameAnswer, NoTemperature}
 
 -- another code does not change which card is fit, so an answer over the words alone passes the shell in the same way
 module _ (card : Card) (channel code room : ℕ) where

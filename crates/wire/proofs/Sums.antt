@@ -1,11 +1,11 @@
 -- Laws of specs/Sum.antt. Assumes nothing.
-use mathlib.Core.Path.{_≡_, refl, sym, ap, _∙_}
+use mathlib.Core.Path.{_≡_}
 use mathlib.Core.List.{List, [], _∷_, _++_}
-use Prim.Native.Nat.{ℕ, zero, suc, _+_, _%_, _<_}
-use native.Mathlib.Nat.{add-assoc, add-zero, zero-add, not-suc-le-zero, le-of-suc-le-suc}
+use Prim.Native.Nat.{ℕ, zero, suc, _+_, _<_}
+use native.Mathlib.Nat.{not-suc-le-zero, le-of-suc-le-suc}
 use native.Mathlib.Omega.{arith}
 use lib.ListN.{length, take, getD}
-use Rattle.wire.specs.Sum.{total, sumOf}
+use Rattle.wire.specs.Sum.{total}
 
 pub total-append : (a b : List ℕ) → total (a ++ b) ≡ total a + total b
 unfolding total

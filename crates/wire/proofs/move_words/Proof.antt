@@ -1,12 +1,12 @@
 -- `wire::move_words` meets its contract. The invariant: the words are as they came with the first i of the run pasted at `to`. Assumes nothing.
-use mathlib.Core.Path.{_≡_, refl, sym, ap, _∙_}
-use Prim.Native.Nat.{ℕ, _+_, _-_, _≤_, _<_}
+use mathlib.Core.Path.{_≡_, refl}
+use Prim.Native.Nat.{_+_, _-_, _≤_}
 use native.Mathlib.Numerals.{add-one}
 use native.Mathlib.Omega.{arith}
 use borrow.Author.Needs.{needs}
-use lib.ListN.{length, take, drop, length-set, length-take, length-drop}
-use lib.Seq.{paste, paste-zero, take-length}
-use Rattle.wire.specs.Buffer.{put, part}
+use lib.ListN.{length, length-set}
+use lib.Seq.{paste, paste-zero}
+use Rattle.wire.specs.Buffer.{part}
 use Rattle.wire.proofs.Moves.{turn, done}
 use Rattle.wire.proofs.move_words.Statement.{statement}
 use Rattle.wire.proofs.move_words.Tie as tie

@@ -7,7 +7,7 @@ use Rattle.card.specs.Reply.{guarded}
 use Rattle.card.specs.Entries.{restart, restarted, dropped, fullDemands}
 use Rattle.wire.proofs.Cases.{yes, no, told-yes, told-no}
 use native.Mathlib.Omega.{arith}
-use mathlib.Core.Path.{_≡_, refl, sym, ap, _∙_}
+use mathlib.Core.Path.{refl, ap, _∙_}
 use borrow.Author.Needs.{needs}
 use Rattle.card.proofs.entries.restart_card.Statement.{statement}
 use Rattle.card.proofs.entries.restart_card.Tie as tie

@@ -6,7 +6,7 @@ use Rattle.card.specs.Entries.{setCode, withCode}
 use Rattle.wire.proofs.Cases.{yes, no, told-yes, told-no}
 use borrow.Author.Tests.{lt-ltb, le-ltb}
 use native.Mathlib.Omega.{arith}
-use mathlib.Core.Path.{_≡_, refl, sym, ap, _∙_}
+use mathlib.Core.Path.{refl}
 use borrow.Author.Needs.{needs}
 use Rattle.card.proofs.entries.set_code.Statement.{statement}
 use Rattle.card.proofs.entries.set_code.Tie as tie

@@ -4,7 +4,7 @@ use Rattle.card.specs.declared.probe.Reading.the-variants.{Temperature}
 use Rattle.wire.proofs.Cases.{cases, no}
 use borrow.Author.Tests.{ne-eqb}
 use Prim.Native.Nat.{ℕ}
-use mathlib.Core.Path.{_≡_, refl, sym, ap, _∙_}
+use mathlib.Core.Path.{ap}
 use Rattle.card.specs.Probe.{readingOf, tenthsOf}
 use Rattle.wire.proofs.Cases.{cases}
 use borrow.Author.Needs.{needs}

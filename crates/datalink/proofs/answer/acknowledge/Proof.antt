@@ -10,7 +10,7 @@ use Rattle.wire.proofs.Cases.{yes, no}
 use lib.ListN.{getD, length-drop}
 use borrow.Author.Tests.{eq-eqb, ne-eqb}
 use native.Mathlib.Omega.{arith}
-use mathlib.Core.Path.{_≡_, refl, sym, ap, _∙_}
+use mathlib.Core.Path.{refl, _∙_}
 use borrow.Author.Needs.{needs}
 use Rattle.datalink.proofs.answer.acknowledge.Statement.{statement}
 use Rattle.datalink.proofs.answer.acknowledge.Tie as tie

@@ -1,6 +1,5 @@
 -- `datalink::frame::data_carried` meets its contract: the tests are those of the definition. Assumes nothing.
 use Rattle.wire.proofs.Cases.{cases}
-use borrow.Author.Needs.{needs}
 use Rattle.datalink.specs.Frame.{carried}
 use Rattle.datalink.proofs.frame.data_carried.Statement.{statement}
 use Rattle.datalink.proofs.frame.data_carried.Tie as tie

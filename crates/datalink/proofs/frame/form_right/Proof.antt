@@ -3,7 +3,7 @@ use Rattle.wire.proofs.Cases.{yes, no}
 use borrow.Author.Tests.{eq-eqb, ne-eqb}
 use Rattle.datalink.proofs.Frames.{form-short}
 use Rattle.datalink.specs.Frame.{formRight, isAcknowledge, kindIn, numIn}
-use mathlib.Core.Path.{_≡_, refl, sym, ap, _∙_}
+use mathlib.Core.Path.{refl, sym, _∙_}
 use borrow.Author.Needs.{needs}
 use Rattle.datalink.proofs.frame.form_right.Statement.{statement}
 use Rattle.datalink.proofs.frame.form_right.Tie as tie

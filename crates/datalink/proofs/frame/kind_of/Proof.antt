@@ -1,6 +1,5 @@
 -- `datalink::frame::kind_of` meets its contract: the tests are those of the definition. Assumes nothing.
 use Rattle.wire.proofs.Cases.{cases}
-use borrow.Author.Needs.{needs}
 use Rattle.datalink.specs.Frame.{kindOf}
 use Rattle.datalink.proofs.frame.kind_of.Statement.{statement}
 use Rattle.datalink.proofs.frame.kind_of.Tie as tie

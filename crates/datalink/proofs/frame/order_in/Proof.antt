@@ -2,7 +2,7 @@
 use Rattle.card.specs.Tables.{named}
 use Rattle.datalink.specs.Frame.{kindIn, kindOf, numIn, namedIn, addressIn, bareSize}
 use lib.ListN.{length}
-use Prim.Native.Nat.{ℕ, _≤_, _<_}
+use Prim.Native.Nat.{ℕ, _≤_}
 use Rattle.datalink.proofs.Frames.{order-acknowledge, order-other, form-facts}
 use native.Mathlib.Omega.{arith}
 use mathlib.Core.Path.{_≡_, refl, sym, ap, _∙_}
