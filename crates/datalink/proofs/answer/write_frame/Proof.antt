@@ -3,7 +3,6 @@ use Rattle.datalink.proofs.Responses.{framed-length, framed-written}
 use lib.ListN.{length-set, length-append}
 use mathlib.Core.List.{_++_}
 use native.Mathlib.Omega.{arith}
-use mathlib.Core.Path.{_≡_, refl, sym, ap, _∙_}
 use borrow.Author.Needs.{needs}
 use Rattle.datalink.proofs.answer.write_frame.Statement.{statement}
 use Rattle.datalink.proofs.answer.write_frame.Tie as tie
