@@ -1,0 +1,5 @@
+pub mod Requests
+pub mod Frames
+pub mod Steps
+pub mod Forced
+pub mod Examples

@@ -1,0 +1,42 @@
+-- `master::request::as_asked` meets its contract, kind by kind. Assumes nothing.
+use native.Mathlib.Omega.{arith}
+use Rattle.master.proofs.Requests.{paired-bits}
+use Rattle.master.specs.Request.{asAsked}
+use borrow.Author.Needs.{needs}
+use Rattle.master.proofs.request.as_asked.Statement.{statement}
+use Rattle.master.proofs.request.as_asked.Tie as tie
+
+enum-told : tie.Need-enum-told
+enum-told c = search needs
+
+shared-slice-read-result : tie.Need-shared-slice-read-result
+shared-slice-read-result c = search needs
+
+enum-told-2 : tie.Need-enum-told-2
+enum-told-2 c = search needs
+
+shared-slice-read-result-2 : tie.Need-shared-slice-read-result-2
+shared-slice-read-result-2 c = search needs
+
+shared-slice-read-result-3 : tie.Need-shared-slice-read-result-3
+shared-slice-read-result-3 c = omega (arith, paired-bits (c .before .before .before .before .args .kind) (c .before .before .before .before .args .sent .now) (c .before .before .before .before .args .states .now) (c .before .before .enum-told2 .given .1) (c .before .before .before .before .pre .1))
+
+returns : tie.Need-returns
+unfolding asAsked
+returns c = rw (c .before .enum-told .given .1)
+
+returns-2 : tie.Need-returns-2
+unfolding asAsked
+returns-2 c = rw (c .before .before .enum-told2 .given .1)
+
+pub as-asked-spec : {M : Type 1} → statement M
+as-asked-spec =
+    tie.close
+    (tie.spec
+    enum-told
+    shared-slice-read-result
+    enum-told-2
+    shared-slice-read-result-2
+    shared-slice-read-result-3
+    returns
+    returns-2)

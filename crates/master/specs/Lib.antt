@@ -1,0 +1,4 @@
+pub mod Request
+pub mod Accepted
+pub mod Frames
+pub mod Step

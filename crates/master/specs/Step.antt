@@ -1,0 +1,65 @@
+-- The line master's step. Document 01, "Datalink", second half.
+use Prim.Native.Nat.{ℕ}
+use mathlib.Core.Path.{_≡_}
+use mathlib.Core.List.{List, []}
+use lib.Dec.{leb}
+use lib.ListN.{length}
+use Rattle.wire.specs.Choose.{choose}
+use Rattle.wire.specs.Buffer.{overlay}
+use Rattle.card.specs.Numbers.{answered, done, valueOutside, nothingPending, bufferShort}
+use Rattle.datalink.specs.Frame.{longest}
+use Rattle.master.specs.Request.{Request, askable}
+use Rattle.master.specs.Frames.{changeFrame, acknowledgeFrame, interrogateFrame, isEcho, confirms}
+use Rattle.master.specs.declared.Phase.{Phase}
+use Rattle.master.specs.declared.Phase.the-variants.{New, Changing, Acknowledging, Reading, EndedDone, EndedUnknown}
+use Rattle.master.specs.declared.Verdict.{Verdict}
+use Rattle.master.specs.declared.Verdict.the-variants.{Open, Done, Unknown}
+
+-- what the master says in a phase, so after a refused step too
+abbrev pub saysOf : Phase → Verdict
+saysOf New = Open
+saysOf Changing = Open
+saysOf Acknowledging = Open
+saysOf Reading = Open
+saysOf EndedDone = Done
+saysOf EndedUnknown = Unknown
+
+-- what a step gives: its number, the bytes of the frame that it sends, and the phase that it leaves
+pub record Move : Type 0 where
+  pub number : ℕ
+  pub bytes : List ℕ
+  pub phase : Phase
+
+-- a frame is sent: 0
+abbrev pub sends : List ℕ → Phase → Move
+sends frame phase = record { number = answered; bytes = frame; phase = phase }
+
+-- the exchange ends with no frame: 1
+abbrev pub ends : Phase → Move
+ends phase = record { number = done; bytes = []; phase = phase }
+
+-- "It refuses, sending nothing and moving no step"
+abbrev pub refuses : ℕ → Phase → Move
+refuses number phase = record { number = number; bytes = []; phase = phase }
+
+-- the move in each phase, by the answer heard, [] for none: "It acknowledges only on an exact echo and says done only if the read-back has every byte, or every forced bit, as asked.
+-- Otherwise unknown; without an exact echo the exchange ends there." After the acknowledge it reads back, whatever it heard. "10 exactly if a step is asked after the end"
+unfoldable pub move : Request → Phase → List ℕ → Move
+move q New heard = sends (changeFrame q) Changing
+move q Changing heard = choose (isEcho q heard) (sends (acknowledgeFrame q) Acknowledging) (ends EndedUnknown)
+move q Acknowledging heard = sends (interrogateFrame q) Reading
+move q Reading heard = choose (confirms q heard) (ends EndedDone) (ends EndedUnknown)
+move q EndedDone heard = refuses nothingPending EndedDone
+move q EndedUnknown heard = refuses nothingPending EndedUnknown
+
+-- the step: 7, "then with 11 exactly if its frame buffer is below 38; then with 10"
+unfoldable pub stepOf : Request → Phase → List ℕ → ℕ → Move
+stepOf q phase heard room =
+    choose (askable q) (choose (leb longest room) (move q phase heard) (refuses bufferShort phase)) (refuses valueOutside phase)
+
+-- a step gave this move: the number, the frame's length, the whole frame buffer and the phase
+pub record Stepped (m : Move) (frame : List ℕ) (number len : ℕ) (phase : Phase) (frame′ : List ℕ) : Type 0 where
+  pub numbered : number ≡ m .number
+  pub measured : len ≡ length (m .bytes)
+  pub written : frame′ ≡ overlay (m .bytes) frame
+  pub moved : phase ≡ m .phase

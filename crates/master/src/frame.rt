@@ -1,0 +1,114 @@
+// The frames that the master sends, and the answers that it expects in the same form.
+use crate::request::Kind;
+use datalink::answer::write_frame;
+use datalink::form::Datalink;
+ghost use mathlib.Core.Path.{_≡_};
+ghost use mathlib.Core.List.{[], _∷_};
+ghost use Prim.Native.Nat.{_+_, _≤_};
+ghost use lib.ListN.{length};
+ghost use Rattle.wire.specs.Buffer.{overlay};
+ghost use Rattle.card.specs.Layout.{dataMost};
+ghost use Rattle.card.specs.Reply.{Wrote};
+ghost use Rattle.card.specs.Tables.{iaMost};
+ghost use Rattle.datalink.specs.Frame.{start, acknowledgeBits, framed, longest};
+ghost use Rattle.master.specs.Request.{askOf, requestOf, addressMost};
+ghost use Rattle.master.specs.Accepted.{Accepted};
+ghost use Rattle.master.specs.Frames.{pairs, body, commandOf, changeBody, changeFrame, interrogateFrame};
+
+// Writes a frame of this second byte, NUM, address and data at the front of out.
+pub fn write(out: &mut [u8], second: u8, num: usize, address: u32, bytes: &[u8]) -> usize
+    requires { ⌜ ((num ≤ dataMost) × (address ≤ addressMost)) × ((length (now bytes) ≤ dataMost) × (longest ≤ length (now out))) ⌝ }
+    ensures { λ r. ⌜ Wrote (framed second (body num address (now (bytes .entry)))) (now (out .entry)) r (now (out .exit)) ⌝ }
+{
+    let head = [num as u8, (address % 256) as u8, (address / 256) as u8];
+    write_frame(out, second, &head, bytes)
+}
+
+// Masks and states by turns at the front of out.
+fn interleave(masks: &[u8], states: &[u8], out: &mut [u8])
+    requires { ⌜ (length (now masks) ≡ length (now states)) × (length (now masks) + length (now masks) ≤ length (now out)) ⌝ }
+    ensures { λ _. ⌜ now (out .exit) ≡ overlay (pairs (now (masks .entry)) (now (states .entry))) (now (out .entry)) ⌝ }
+{
+    let mut i = 0;
+    while i < masks.len() {
+        out[2 * i] = masks[i];
+        out[2 * i + 1] = states[i];
+        i += 1;
+    }
+}
+
+// Writes a frame of this second byte with the body of the request's change: the change itself, or its exact echo.
+pub fn write_change(
+    out: &mut [u8],
+    second: u8,
+    kind: Kind,
+    ia: u32,
+    address: u32,
+    sent: &[u8],
+    states: &[u8],
+) -> usize
+    requires { ⌜ Accepted (requestOf kind ia address (now sent) (now states)) × (longest ≤ length (now out)) ⌝ }
+    ensures { λ r. ⌜ Wrote (framed second (changeBody (requestOf kind ia address (now (sent .entry)) (now (states .entry))))) (now (out .entry)) r (now (out .exit)) ⌝ }
+{
+    match kind {
+        Kind::Bytes => write(out, second, sent.len(), address, sent),
+        Kind::Bits => {
+            let num = 2 * sent.len();
+            let mut data = [0u8; 32];
+            interleave(sent, states, &mut data);
+            write(out, second, num, address, &data[..num])
+        }
+    }
+}
+
+// The command of the request's change.
+fn command_of(kind: Kind, sent: &[u8], states: &[u8]) -> u8
+    ensures { λ r. ⌜ r ≡ commandOf (askOf kind (now (sent .entry)) (now (states .entry))) ⌝ }
+{
+    match kind {
+        Kind::Bytes => Datalink::CHANGE,
+        Kind::Bits => Datalink::CHANGE_BITS,
+    }
+}
+
+// Sends the request's change.
+pub fn change(
+    out: &mut [u8],
+    kind: Kind,
+    ia: u32,
+    address: u32,
+    sent: &[u8],
+    states: &[u8],
+) -> usize
+    requires { ⌜ Accepted (requestOf kind ia address (now sent) (now states)) × (longest ≤ length (now out)) ⌝ }
+    ensures { λ r. ⌜ Wrote (changeFrame (requestOf kind ia address (now (sent .entry)) (now (states .entry)))) (now (out .entry)) r (now (out .exit)) ⌝ }
+{
+    let second = command_of(kind, sent, states) + ia as u8;
+    write_change(out, second, kind, ia, address, sent, states)
+}
+
+// Sends the acknowledge.
+pub fn acknowledge(out: &mut [u8], ia: u32) -> usize
+    requires { ⌜ (ia ≤ iaMost) × (longest ≤ length (now out)) ⌝ }
+    ensures { λ r. ⌜ Wrote (start ∷ (acknowledgeBits + ia) ∷ []) (now (out .entry)) r (now (out .exit)) ⌝ }
+{
+    out[0] = Datalink::START;
+    out[1] = Datalink::ACKNOWLEDGE + ia as u8;
+    Datalink::SHORTEST
+}
+
+// Sends an interrogate of the bytes named.
+pub fn interrogate(
+    out: &mut [u8],
+    kind: Kind,
+    ia: u32,
+    address: u32,
+    sent: &[u8],
+    states: &[u8],
+) -> usize
+    requires { ⌜ Accepted (requestOf kind ia address (now sent) (now states)) × (longest ≤ length (now out)) ⌝ }
+    ensures { λ r. ⌜ Wrote (interrogateFrame (requestOf kind ia address (now (sent .entry)) (now (states .entry)))) (now (out .entry)) r (now (out .exit)) ⌝ }
+{
+    let second = Datalink::INTERROGATE + ia as u8;
+    write(out, second, sent.len(), address, b"")
+}
