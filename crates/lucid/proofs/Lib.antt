@@ -5,3 +5,5 @@ pub mod Judged
 pub mod Bytes
 pub mod Groups
 pub mod Replies
+pub mod Laws
+pub mod Examples

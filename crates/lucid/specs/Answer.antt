@@ -1,7 +1,7 @@
 -- What the card answers to a LucidControl frame, and what its words become. Document 01, "LucidControl".
-use Prim.Native.Nat.{ℕ, _+_, _*_, _%_}
+use Prim.Native.Nat.{ℕ, zero, suc, _+_, _*_, _/_, _%_}
 use mathlib.Core.Path.{_≡_}
-use mathlib.Core.Bool.{Bool}
+use mathlib.Core.Bool.{Bool, false, _&&_, not}
 use mathlib.Core.List.{List, [], _∷_, _++_}
 use lib.Dec.{eqb}
 use lib.ListN.{length, getD, set, take}
@@ -112,6 +112,28 @@ lucidWords ws memory f = choose (fits (length f)) (obeyed ws memory f (asked f))
 -- the entry's whole meaning; room is the answer buffer's length
 unfoldable pub lucidReply : Card → ℕ → List ℕ → Reply
 lucidReply card room f = shell roomLeast card room (onWords card (lucidWords (card .words) (card .memory) f))
+
+-- the mask names a channel: the channel's bit, counted from the lowest
+unfoldable pub named : ℕ → ℕ → Bool
+named zero mask = eqb (mask % 2) 1
+named (suc channel) mask = named channel (mask / 2)
+
+-- an order asks for the probe of a channel
+unfoldable pub readsProbe : Order → ℕ → Bool
+readsProbe (Refused number status) channel = false
+readsProbe (GetIo kind mask) channel = not (eqb kind demand) && named channel mask
+readsProbe (SetIo mask) channel = false
+readsProbe (GetParam place) channel = false
+readsProbe (SetParam place saved value) channel = false
+readsProbe (Reset which saved) channel = false
+
+-- a frame does
+unfoldable pub asksProbe : List ℕ → ℕ → Bool
+asksProbe f channel = fits (length f) && readsProbe (asked f) channel
+
+-- the reply to a failed probe: no temperature is in it
+abbrev pub faultReply : List ℕ
+faultReply = errExecution ∷ 0 ∷ []
 
 -- bytes were put at the end of the n bytes held so far
 pub record Grew (bytes values : List ℕ) (n len : ℕ) (values′ : List ℕ) : Type 0 where

@@ -1,0 +1,151 @@
+-- What holds of every LucidControl reply: a refusal changes no table; a failed probe is answered by the fault reply, a group's too; the
+-- reply depends on the probes asked for alone, and without one on no memory at all. Assumes nothing.
+use mathlib.Core.Path.{_≡_, refl, sym, ap, _∙_, subst}
+use mathlib.Core.Bool.{Bool, true, false, _&&_, not}
+use mathlib.Core.List.{List, [], _∷_}
+use Prim.Native.Nat.{ℕ, zero, suc, _+_, _/_, _%_, _≤_, _<_}
+use native.Mathlib.Nat.{add-zero, zero-add, not-suc-le-zero, le-of-suc-le-suc}
+use native.Mathlib.Omega.{arith}
+use borrow.Author.Tests.{eq-eqb, eqb-true, eqb-false, not-true}
+use lib.Dec.{eqb}
+use lib.ListN.{length, getD}
+use Rattle.wire.specs.Choose.{choose}
+use Rattle.wire.proofs.Cases.{yes, no, by-choice}
+use Rattle.card.specs.Numbers.{frameForm, probeFault}
+use Rattle.card.specs.Layout.{Card, channels, demandsAt}
+use Rattle.card.specs.Probe.{faultCode, readingOf}
+use Rattle.card.specs.Reply.{WordsReply, onWords, sent, shell, roomLeast, Keeps}
+use Rattle.card.specs.declared.probe.Reading.{Reading}
+use Rattle.card.specs.declared.probe.Reading.the-variants.{Fault}
+use Rattle.card.proofs.Facts.{and-true}
+use Rattle.card.proofs.Replies.{shell-keeps}
+use Rattle.lucid.specs.Form.{fits, channelsFrom, channelsOf, demand}
+use Rattle.lucid.specs.Frame.{asked}
+use Rattle.lucid.specs.Answer.{Values, Held, Failed, joined, group, readingIn, valueOf, read, obeyed, lucidWords, lucidReply, named, readsProbe, asksProbe, faultReply}
+use Rattle.lucid.specs.declared.frame.Order.{Order}
+use Rattle.lucid.specs.declared.frame.Order.the-variants.{Refused, GetIo, SetIo, GetParam, SetParam, Reset}
+use Rattle.lucid.proofs.Groups.{value-fault}
+
+-- keeps
+read-keeps : (card : Card) (g : Values) → Keeps card (onWords card (read (card .words) g))
+unfolding read
+read-keeps card (Held bytes) = record { kept = λ _. refl }
+read-keeps card Failed = record { kept = λ _. refl }
+
+obeyed-keeps : (card : Card) (f : List ℕ) (order : Order) → Keeps card (onWords card (obeyed (card .words) (card .memory) f order))
+unfolding obeyed
+obeyed-keeps card f (Refused number status) = record { kept = λ _. refl }
+obeyed-keeps card f (GetIo kind mask) = read-keeps card (group (valueOf (card .words) (card .memory) kind) (channelsOf mask))
+obeyed-keeps card f (SetIo mask) = record { kept = λ h. let z : ⊥ = omega arith in absurd z }
+obeyed-keeps card f (GetParam place) = record { kept = λ _. refl }
+obeyed-keeps card f (SetParam place saved value) = record { kept = λ h. let z : ⊥ = omega arith in absurd z }
+obeyed-keeps card f (Reset channel saved) = record { kept = λ h. let z : ⊥ = omega arith in absurd z }
+
+-- "Numbers 2 to 14 change no table"
+pub keeps : (card : Card) (room : ℕ) (f : List ℕ) → Keeps card (lucidReply card room f)
+unfolding lucidReply lucidWords
+keeps card room f =
+    shell-keeps roomLeast card room _
+    (by-choice (λ (r : WordsReply). Keeps card (onWords card r)) (fits (length f)) _ _ (λ _. obeyed-keeps card f (asked f)) (λ _. record { kept = λ _. refl }))
+
+-- fault
+joined-failed : (g : Values) → joined g Failed ≡ Failed
+unfolding joined
+joined-failed (Held bytes) = refl
+joined-failed Failed = refl
+
+-- "One failed probe refuses a whole group": a channel of the n from k on
+group-fault : (value : ℕ → Values) (n k mask channel : ℕ) → channel < n → named channel mask ≡ true → value (k + channel) ≡ Failed → group value (channelsFrom n k mask) ≡ Failed
+unfolding channelsFrom named group joined choose
+group-fault value zero k mask channel h b e = absurd (not-suc-le-zero h)
+group-fault value (suc n) k mask zero h b e = here (rw add-zero at e)
+  where
+    here : value k ≡ Failed → group value (channelsFrom (suc n) k mask) ≡ Failed
+    here d = rw (b, d)
+group-fault value (suc n) k mask (suc channel) h b e =
+    let m : suc k + channel ≡ k + suc channel = omega arith in
+    let rest = group-fault value n (suc k) (mask / 2) channel (le-of-suc-le-suc h) b (rw m e) in
+    by-choice (λ (ks : List ℕ). group value ks ≡ Failed) (eqb (mask % 2) 1) _ _ (λ _. more rest) (λ _. rest)
+  where
+    more : group value (channelsFrom n (suc k) (mask / 2)) ≡ Failed → group value (k ∷ channelsFrom n (suc k) (mask / 2)) ≡ Failed
+    more r = rw r (joined-failed (value k))
+
+order-fault : (ws memory f : List ℕ) (order : Order) (channel : ℕ) → channel < channels → readsProbe order channel ≡ true → getD memory channel 0 ≡ faultCode
+    → obeyed ws memory f order ≡ record { number = probeFault; bytes = faultReply; words = ws }
+unfolding obeyed readsProbe read readingOf choose
+order-fault ws memory f (Refused number status) channel h r code = cc
+order-fault ws memory f (GetIo kind mask) channel h r code =
+    let b = and-true (not (eqb kind demand)) (named channel mask) r in
+    let reading : readingOf (getD memory channel 0) ≡ Fault = ap readingOf code ∙ fault-reading in
+    let failed = value-fault ws memory kind channel (eqb-false kind demand (not-true _ (b .0))) reading in
+    ap (read ws) (group-fault (valueOf ws memory kind) channels 0 mask channel h (b .1) (rw zero-add failed))
+  where
+    fault-reading : readingOf faultCode ≡ Fault
+    fault-reading = refl
+order-fault ws memory f (SetIo mask) channel h r code = cc
+order-fault ws memory f (GetParam place) channel h r code = cc
+order-fault ws memory f (SetParam place saved value) channel h r code = cc
+order-fault ws memory f (Reset which saved) channel h r code = cc
+
+-- the probe of a channel at fault, asked for alone or in a group: unless 12 or 11 comes first, the fault reply (9, D0h) and nothing else
+pub fault : (card : Card) (room : ℕ) (f : List ℕ) (channel : ℕ) → channel < channels → asksProbe f channel ≡ true → getD (card .memory) channel 0 ≡ faultCode
+    → lucidReply card room f ≡ shell roomLeast card room (sent probeFault faultReply card)
+unfolding lucidReply lucidWords asksProbe
+fault card room f channel h a code =
+    let b = and-true (fits (length f)) (readsProbe (asked f) channel) a in
+    ap (λ (r : WordsReply). shell roomLeast card room (onWords card r))
+    (sym (yes _ _ _ _ (b .0) (sym (order-fault (card .words) (card .memory) f (asked f) channel h (b .1) code))))
+
+-- two memories that agree on the probes asked for
+group-same : (value value′ : ℕ → Values) (n k mask : ℕ) → ((channel : ℕ) → channel < n → named channel mask ≡ true → value (k + channel) ≡ value′ (k + channel))
+    → group value (channelsFrom n k mask) ≡ group value′ (channelsFrom n k mask)
+unfolding channelsFrom named group choose
+group-same value value′ zero k mask same = none
+  where
+    none : group value [] ≡ group value′ []
+    none = refl
+group-same value value′ (suc n) k mask same =
+    by (eqb (mask % 2) 1) refl
+    (group-same value value′ n (suc k) (mask / 2)
+    (λ channel h b. let m : k + suc channel ≡ suc k + channel = omega arith in rw m at (same (suc channel) (omega arith) b)))
+  where
+    by : (t : Bool) → eqb (mask % 2) 1 ≡ t → group value (channelsFrom n (suc k) (mask / 2)) ≡ group value′ (channelsFrom n (suc k) (mask / 2))
+        → group value (channelsFrom (suc n) k mask) ≡ group value′ (channelsFrom (suc n) k mask)
+    by true e rest = let here : value k ≡ value′ k = rw add-zero at (same zero (omega arith) e) in rw (e, here, rest)
+    by false e rest = rw (e, rest)
+
+value-same : (ws memory memory′ : List ℕ) (kind channel : ℕ) → (eqb kind demand ≡ false → getD memory channel 0 ≡ getD memory′ channel 0)
+    → valueOf ws memory kind channel ≡ valueOf ws memory′ kind channel
+unfolding valueOf choose
+value-same ws memory memory′ kind channel same = by (eqb kind demand) refl
+  where
+    by : (t : Bool) → eqb kind demand ≡ t → valueOf ws memory kind channel ≡ valueOf ws memory′ kind channel
+    by true e = rw e
+    by false e = rw (e, same e)
+
+order-same : (ws memory memory′ f : List ℕ) (order : Order) → ((channel : ℕ) → channel < channels → readsProbe order channel ≡ true → getD memory channel 0 ≡ getD memory′ channel 0)
+    → obeyed ws memory f order ≡ obeyed ws memory′ f order
+unfolding obeyed readsProbe
+order-same ws memory memory′ f (Refused number status) same = refl
+order-same ws memory memory′ f (GetIo kind mask) same =
+    ap (read ws)
+    (group-same (valueOf ws memory kind) (valueOf ws memory′ kind) channels 0 mask
+    (λ channel h b. rw zero-add (value-same ws memory memory′ kind channel (λ e. same channel h (rw (e, b))))))
+order-same ws memory memory′ f (SetIo mask) same = refl
+order-same ws memory memory′ f (GetParam place) same = refl
+order-same ws memory memory′ f (SetParam place saved value) same = refl
+order-same ws memory memory′ f (Reset which saved) same = refl
+
+-- the reply depends on the codes of the probes asked for, and on no other byte of the memory
+pub asked-alone : (ws memory memory′ f : List ℕ) → ((channel : ℕ) → channel < channels → asksProbe f channel ≡ true → getD memory channel 0 ≡ getD memory′ channel 0)
+    → lucidWords ws memory f ≡ lucidWords ws memory′ f
+unfolding lucidWords asksProbe choose
+asked-alone ws memory memory′ f same = by (fits (length f)) refl
+  where
+    by : (t : Bool) → fits (length f) ≡ t → lucidWords ws memory f ≡ lucidWords ws memory′ f
+    by true e = rw e (order-same ws memory memory′ f (asked f) (λ channel h r. same channel h (rw (e, r))))
+    by false e = rw e
+
+-- a frame that asks for no probe: the reply is the same for any two memories
+pub independent : (ws memory memory′ f : List ℕ) → ((channel : ℕ) → channel < channels → asksProbe f channel ≡ false) → lucidWords ws memory f ≡ lucidWords ws memory′ f
+independent ws memory memory′ f none = asked-alone ws memory memory′ f (λ channel h a. let z : _≡_ {A = ℕ} 0 1 = cc (none channel h) in let y : ⊥ = omega arith in absurd y)
