@@ -108,6 +108,30 @@ uint8_t nk_write_image(const uint32_t *words, size_t words_count, const uint8_t 
 uint8_t nk_read_image(uint32_t *words, size_t words_count, const uint8_t *memory, size_t memory_count,
                       const uint8_t *pending, size_t pending_count, const uint8_t *image, size_t image_count);
 
+/* The line master's step: the host's side of one Datalink exchange (change, acknowledge, read back).
+ *
+ * A request is `kind`, the unit's I.A., a 16-bit address, and what is to be written: for NK_BYTES `sent` holds the bytes (at
+ * most 32) and `states` is not looked at; for NK_BITS `sent` holds the masks and `states` the states (at most 16 each).
+ * *phase starts as NK_NEW and is handed from step to step with the same request. `answer` is the answer to the frame last
+ * sent, or nothing (count 0). The step writes the next frame to the front of `frame` (at least NK_ROOM bytes) and its length
+ * to *len.
+ *
+ * NK_ANSWERED: send the frame. NK_DONE: the exchange has ended, *phase says how: NK_ENDED_DONE (every byte, or every forced
+ * bit, was read back as asked) or NK_ENDED_UNKNOWN. Refused, with nothing sent and no step moved: NK_VALUE_OUTSIDE for the
+ * request, NK_BUFFER_SHORT, NK_NOTHING_PENDING after the end. A phase outside the list counts as NK_ENDED_UNKNOWN. */
+enum { NK_BYTES = 0, NK_BITS = 1 };
+enum {
+    NK_NEW = 0,
+    NK_CHANGING = 1,
+    NK_ACKNOWLEDGING = 2,
+    NK_READING = 3,
+    NK_ENDED_DONE = 4,
+    NK_ENDED_UNKNOWN = 5
+};
+uint8_t nk_step(uint8_t *phase, uint8_t kind, uint32_t ia, uint32_t address, const uint8_t *sent, size_t sent_count,
+                const uint8_t *states, size_t states_count, const uint8_t *answer, size_t answer_count, uint8_t *frame,
+                size_t frame_count, size_t *len);
+
 #ifdef __cplusplus
 }
 #endif

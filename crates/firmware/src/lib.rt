@@ -1,5 +1,7 @@
 // The card's entries for firmware in C: thin, each with the whole contract of the entry below it. include/nakshvilor.h describes them.
 use card::governor::Governor;
+use master::Phase;
+use master::request::Kind;
 use card::numbers::ANSWERED;
 use card::numbers::PROBE_FAULT;
 ghost use mathlib.Core.Path.{_≡_};
@@ -13,7 +15,10 @@ ghost use Rattle.lecom.specs.Answer.{lecomReply};
 ghost use Rattle.love.specs.Answer.{loveReply};
 ghost use Rattle.lucid.specs.Answer.{lucidReply};
 ghost use Rattle.image.specs.Entries.{writeImage, readImage};
+ghost use Rattle.master.specs.Request.{requestOf};
+ghost use Rattle.master.specs.Step.{stepOf};
 ghost use Rattle.firmware.specs.Lent.{degreesIn};
+ghost use Rattle.firmware.specs.Phases.{codeOf, phaseOf, kindOf, SteppedTo};
 
 #[no_mangle]
 pub extern "C" fn nk_set_code(
@@ -154,4 +159,77 @@ pub extern "C" fn nk_read_image(
     ensures { λ r. ⌜ Did (readImage (cardOf (now (words .entry)) (now (memory .entry)) (now (pending .entry))) (now (image .entry))) r (now (words .exit)) (now (memory .entry)) (now (pending .entry)) ⌝ }
 {
     image::read_image(words, memory, pending, image)
+}
+
+// The line master's phases and a request's kinds as C numbers.
+const NEW: u8 = 0;
+const CHANGING: u8 = 1;
+const ACKNOWLEDGING: u8 = 2;
+const READING: u8 = 3;
+const ENDED_DONE: u8 = 4;
+const ENDED_UNKNOWN: u8 = 5;
+const BYTES: u8 = 0;
+
+fn phase_of(code: u8) -> Phase
+    ensures { λ r. ⌜ r ≡ phaseOf code ⌝ }
+{
+    if code == NEW {
+        return Phase::New;
+    }
+    if code == CHANGING {
+        return Phase::Changing;
+    }
+    if code == ACKNOWLEDGING {
+        return Phase::Acknowledging;
+    }
+    if code == READING {
+        return Phase::Reading;
+    }
+    if code == ENDED_DONE {
+        return Phase::EndedDone;
+    }
+    Phase::EndedUnknown
+}
+
+fn code_of(phase: Phase) -> u8
+    ensures { λ r. ⌜ r ≡ codeOf phase ⌝ }
+{
+    match phase {
+        Phase::New => NEW,
+        Phase::Changing => CHANGING,
+        Phase::Acknowledging => ACKNOWLEDGING,
+        Phase::Reading => READING,
+        Phase::EndedDone => ENDED_DONE,
+        Phase::EndedUnknown => ENDED_UNKNOWN,
+    }
+}
+
+fn kind_of(code: u8) -> Kind
+    ensures { λ r. ⌜ r ≡ kindOf code ⌝ }
+{
+    if code == BYTES {
+        return Kind::Bytes;
+    }
+    Kind::Bits
+}
+
+#[no_mangle]
+pub extern "C" fn nk_step(
+    phase: &mut u8,
+    kind: u8,
+    ia: u32,
+    address: u32,
+    sent: &[u8],
+    states: &[u8],
+    answer: &[u8],
+    frame: &mut [u8],
+    len: &mut usize,
+) -> u8
+    ensures { λ r. ⌜ SteppedTo (stepOf (requestOf (kindOf kind) ia address (now (sent .entry)) (now (states .entry))) (phaseOf (now (phase .entry))) (now (answer .entry)) (length (now (frame .entry)))) (now (frame .entry)) r (now (len .exit)) (now (phase .exit)) (now (frame .exit)) ⌝ }
+{
+    let given = master::step(phase_of(*phase), kind_of(kind), ia, address, sent, states, answer, frame);
+    let next = given.phase;
+    *phase = code_of(next);
+    *len = given.len;
+    given.number
 }

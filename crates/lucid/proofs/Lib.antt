@@ -6,4 +6,3 @@ pub mod Bytes
 pub mod Groups
 pub mod Replies
 pub mod Laws
-pub mod Examples

@@ -1,0 +1,38 @@
+-- `firmware::nk_step` meets its contract: the step of the phase and kind that the numbers mean. Assumes nothing.
+use Rattle.firmware.specs.Phases.{codeOf}
+use mathlib.Core.Path.{ap, _∙_}
+use borrow.Author.Needs.{needs}
+use Rattle.firmware.proofs.nk_step.Statement.{statement}
+use Rattle.firmware.proofs.nk_step.Tie as tie
+
+phase-of-requires : tie.Need-phase-of-requires
+phase-of-requires c κs = search needs
+
+kind-of-requires : tie.Need-kind-of-requires
+kind-of-requires c κs = search needs
+
+step-requires : tie.Need-step-requires
+step-requires c κs = search needs
+
+code-of-requires : tie.Need-code-of-requires
+code-of-requires c κs = search needs
+
+same-length : tie.Need-same-length
+same-length c = search needs
+
+returns : tie.Need-returns
+returns c = 
+    let given = c .before .before .before .step .ensures in
+    rw (← c .before .before .before .before .before .before .phase-of .ensures, ← c .before .before .before .before .before .kind-of .ensures)
+    (record { numbered = given .numbered; measured = given .measured; moved = c .code-of .ensures ∙ ap codeOf (given .moved); written = given .written })
+
+pub nk-step-spec : {M : Type 1} → statement M
+nk-step-spec =
+    tie.close
+    (tie.spec
+    phase-of-requires
+    kind-of-requires
+    step-requires
+    code-of-requires
+    same-length
+    returns)
