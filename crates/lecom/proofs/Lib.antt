@@ -2,3 +2,4 @@ pub mod Places
 pub mod Writes
 pub mod Orders
 pub mod Laws
+pub mod Fits

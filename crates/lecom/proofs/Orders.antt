@@ -17,6 +17,37 @@ use Rattle.lecom.specs.declared.frame.Order.the-variants.{Unheard, Refus
 use Rattle.lecom.proofs.Places.{size-holds, length-facts}
 use Rattle.lecom.proofs.Writes.{wrote-none}
 
+-- what holds of every order that a frame can be: of a refusal with no byte; of any other, from what its answer needs of the frame; and of what a
+-- frame of the right size asks
+module _ (f : List ℕ) (P : Order → Type 0) (unheard : (number : ℕ) → P (Unheard number))
+    (refused : (number : ℕ) → shortest ≤ length f → (number ≡ rangeUnknown → codeEnd f ≤ length f) → P (Refused number))
+    (passed : shortest ≤ length f → codeEnd f ≤ length f → P (orderIn f)) where
+  or-unheard : (t : Bool) (o : Order) (number : ℕ) → (t ≡ true → P o) → P (choose t o (Unheard number))
+  or-unheard t o number h = by-choice P t o (Unheard number) h (λ _. unheard number)
+
+  or-refused : (t : Bool) (o : Order) (number : ℕ) → shortest ≤ length f → (number ≡ rangeUnknown → codeEnd f ≤ length f) → (t ≡ true → P o) → P (choose t o (Refused number))
+  or-refused t o number long code h = by-choice P t o (Refused number) h (λ _. refused number long code)
+
+  by-heard : shortest ≤ length f → P (heard f)
+  unfolding heard
+  by-heard l =
+      or-refused (sizeRight f) _ frameForm l (λ e. omega arith)
+      (λ s.
+      let k : codeEnd f ≤ length f = omega (arith, size-holds f s) in
+      or-refused _ _ frameForm l (λ e. omega arith)
+      (λ _. or-refused _ _ frameForm l (λ e. omega arith)
+      (λ _. or-refused _ _ checkCharacter l (λ e. omega arith)
+      (λ _. or-refused _ _ rangeUnknown l (λ e. k)
+      (λ _. or-refused _ _ readOnly l (λ e. omega arith)
+      (λ _. or-refused _ _ valueOutside l (λ e. omega arith)
+      (λ _. passed l k)))))))
+
+  pub by-order : (address : ℕ) → P (asked address f)
+  unfolding asked
+  by-order address =
+      or-unheard (lengthRight (length f)) _ _
+      (λ l. or-unheard _ _ _ (λ _. or-unheard _ _ _ (λ _. or-unheard _ _ _ (λ _. by-heard (length-facts (length f) l .0)))))
+
 -- a frame that was heard has its shortest length, and its code if the answer shows it
 abbrev pub Held : List ℕ → Order → Type 0
 Held f (Unheard number) = Unit {0}
@@ -24,35 +55,10 @@ Held f (Refused number) = (shortest ≤ length f) × (number ≡ rangeUnknown �
 Held f (Read code) = (shortest ≤ length f) × (codeEnd f ≤ length f)
 Held f (Write code value) = shortest ≤ length f
 
-module _ (f : List ℕ) where
-  or-unheard : (t : Bool) (o : Order) (number : ℕ) → (t ≡ true → Held f o) → Held f (choose t o (Unheard number))
-  or-unheard t o number h = by-choice (Held f) t o (Unheard number) h (λ _. tt)
-
-  module _ (long : shortest ≤ length f) where
-    or-refused : (t : Bool) (o : Order) (number : ℕ) → (number ≡ rangeUnknown → codeEnd f ≤ length f) → (t ≡ true → Held f o) → Held f (choose t o (Refused number))
-    or-refused t o number code h = by-choice (Held f) t o (Refused number) h (λ _. (long, code))
-
-    held-in : sizeRight f ≡ true → Held f (orderIn f)
-    unfolding orderIn
-    held-in s = by-choice (Held f) (isWrite f) _ _ (λ _. long) (λ _. (long, omega (arith, size-holds f s)))
-
-    held-heard : Held f (heard f)
-    unfolding heard
-    held-heard =
-        or-refused (sizeRight f) _ frameForm (λ e. omega arith)
-        (λ s. or-refused _ _ frameForm (λ e. omega arith)
-        (λ _. or-refused _ _ frameForm (λ e. omega arith)
-        (λ _. or-refused _ _ checkCharacter (λ e. omega arith)
-        (λ _. or-refused _ _ rangeUnknown (λ e. omega (arith, size-holds f s))
-        (λ _. or-refused _ _ readOnly (λ e. omega arith)
-        (λ _. or-refused _ _ valueOutside (λ e. omega arith)
-        (λ _. held-in s)))))))
-
-  pub held : (address : ℕ) → Held f (asked address f)
-  unfolding asked
-  held address =
-      or-unheard (lengthRight (length f)) _ _
-      (λ l. or-unheard _ _ _ (λ _. or-unheard _ _ _ (λ _. or-unheard _ _ _ (λ _. held-heard (length-facts (length f) l .0)))))
+pub held : (f : List ℕ) (address : ℕ) → Held f (asked address f)
+unfolding orderIn
+held f =
+    by-order f (Held f) (λ _. tt) (λ number l k. (l, k)) (λ l k. by-choice (Held f) (isWrite f) _ _ (λ _. l) (λ _. (l, k)))
 
 -- the same, of an order known under its name
 pub known : (address : ℕ) (f : List ℕ) (o : Order) → o ≡ asked address f → Held f o

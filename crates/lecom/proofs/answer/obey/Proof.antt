@@ -35,7 +35,9 @@ write-requires : tie.Need-write-requires
 write-requires c κs = search needs
 
 acknowledge-requires : tie.Need-acknowledge-requires
-acknowledge-requires c κs = (known _ (c .before .before .before .before .before .before .before .before .before .before .before .before .before .before .args .f .now) (Write (c .before .before .before .before .before .before .order4 .given .0 .0) (c .before .before .before .before .before .before .order4 .given .0 .1 .0)) (sym (c .before .before .before .before .before .before .order4 .given .1) ∙ c .before .before .before .before .before .before .before .before .order-of .ensures), search needs)
+acknowledge-requires c κs =
+    let order = c .before .before .before .before .before .before .order4 in
+    (known _ (c .before .before .before .before .before .before .before .before .before .before .before .before .before .before .args .f .now) (Write (order .given .0 .0) (order .given .0 .1 .0)) (sym (order .given .1) ∙ c .before .before .before .before .before .before .before .before .order-of .ensures), search needs)
 
 returns : tie.Need-returns
 unfolding obeyed addressOf
@@ -66,7 +68,11 @@ same-length-5 c = search needs
 
 returns-4 : tie.Need-returns-4
 unfolding obeyed addressOf
-returns-4 c = gave-order _ _ _ _ (Write (c .before .before .before .before .before .before .before .before .before .order4 .given .0 .0) (c .before .before .before .before .before .before .before .before .before .order4 .given .0 .1 .0)) _ (sym (c .before .before .before .before .before .before .before .before .before .order4 .given .1) ∙ c .before .before .before .before .before .before .before .before .before .before .before .order-of .ensures) (rw (c .before .before .before .before .before .before .write .ensures) (gave-leaving _ _ _ (c .before .before .acknowledge .ensures)))
+returns-4 c =
+    let judged = c .before .before .before .before .before .before .before .before .before .before .before in
+    let order = c .before .before .before .before .before .before .before .before .before .order4 in
+    gave-order _ _ _ _ (Write (order .given .0 .0) (order .given .0 .1 .0)) _ (sym (order .given .1) ∙ judged .order-of .ensures)
+    (rw (c .before .before .before .before .before .before .write .ensures) (gave-leaving _ _ _ (c .before .before .acknowledge .ensures)))
 
 pub obey-spec : {M : Type 1} → statement M
 obey-spec =

@@ -56,7 +56,10 @@ write-of-requires c κs = search needs
 
 returns-3 : tie.Need-returns-3
 unfolding writeRight dataRight orderIn dataRead dataOf choose
-returns-3 c = simp (told-yes (c .before .before .before .before .before .before .before .is-write .ensures) (c .before .before .before .before .before .before .if1 .left), ← (c .before .before .before .before .before .before .before .before .code-number .ensures), ← (c .before .before .before .code-end .ensures), told-yes (c .before .before .before .before .before .is-writable .ensures) (c .before .before .before .before .if2 .left), ← (c .before .parse .ensures)) (c .write-of .ensures)
+returns-3 c =
+    let write = told-yes (c .before .before .before .before .before .before .before .is-write .ensures) (c .before .before .before .before .before .before .if1 .left) in
+    let allowed = told-yes (c .before .before .before .before .before .is-writable .ensures) (c .before .before .before .before .if2 .left) in
+    simp (write, ← (c .before .before .before .before .before .before .before .before .code-number .ensures), ← (c .before .before .before .code-end .ensures), allowed, ← (c .before .parse .ensures)) (c .write-of .ensures)
 
 pub order-in-spec : {M : Type 1} → statement M
 order-in-spec =
