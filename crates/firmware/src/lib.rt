@@ -1,9 +1,9 @@
 // The card's entries for firmware in C: thin, each with the whole contract of the entry below it. include/nakshvilor.h describes them.
 use card::governor::Governor;
-use master::Phase;
-use master::request::Kind;
 use card::numbers::ANSWERED;
 use card::numbers::PROBE_FAULT;
+use master::Phase;
+use master::request::Kind;
 ghost use mathlib.Core.Path.{_≡_};
 ghost use lib.ListN.{length};
 ghost use Rattle.card.specs.Layout.{cardOf};
@@ -163,11 +163,17 @@ pub extern "C" fn nk_read_image(
 
 // The line master's phases and a request's kinds as C numbers.
 const NEW: u8 = 0;
+
 const CHANGING: u8 = 1;
+
 const ACKNOWLEDGING: u8 = 2;
+
 const READING: u8 = 3;
+
 const ENDED_DONE: u8 = 4;
+
 const ENDED_UNKNOWN: u8 = 5;
+
 const BYTES: u8 = 0;
 
 fn phase_of(code: u8) -> Phase
@@ -227,7 +233,16 @@ pub extern "C" fn nk_step(
 ) -> u8
     ensures { λ r. ⌜ SteppedTo (stepOf (requestOf (kindOf kind) ia address (now (sent .entry)) (now (states .entry))) (phaseOf (now (phase .entry))) (now (answer .entry)) (length (now (frame .entry)))) (now (frame .entry)) r (now (len .exit)) (now (phase .exit)) (now (frame .exit)) ⌝ }
 {
-    let given = master::step(phase_of(*phase), kind_of(kind), ia, address, sent, states, answer, frame);
+    let given = master::step(
+        phase_of(*phase),
+        kind_of(kind),
+        ia,
+        address,
+        sent,
+        states,
+        answer,
+        frame,
+    );
     let next = given.phase;
     *phase = code_of(next);
     *len = given.len;

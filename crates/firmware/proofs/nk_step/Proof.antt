@@ -21,7 +21,7 @@ same-length : tie.Need-same-length
 same-length c = search needs
 
 returns : tie.Need-returns
-returns c = 
+returns c =
     let given = c .before .before .before .step .ensures in
     rw (← c .before .before .before .before .before .before .phase-of .ensures, ← c .before .before .before .before .before .kind-of .ensures)
     (record { numbered = given .numbered; measured = given .measured; moved = c .code-of .ensures ∙ ap codeOf (given .moved); written = given .written })
