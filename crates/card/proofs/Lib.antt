@@ -4,3 +4,4 @@ pub mod Replies
 pub mod Sweep
 pub mod Floats
 pub mod Probes
+pub mod Keeping
