@@ -1,15 +1,16 @@
 -- Laws of specs/Frames.antt: the data of a change, what a written frame is, and when two lists are the same. Assumes nothing.
-use mathlib.Core.Path.{_≡_, refl, sym, ap, ap₂, _∙_}
+use mathlib.Core.Path.{_≡_, refl, sym, ap, ap₂, _∙_, subst}
 use mathlib.Core.Bool.{Bool, true, false, _&&_}
 use mathlib.Core.List.{List, [], _∷_, _++_, append-assoc}
 use Prim.{tt}
 use Prim.Native.Nat.{ℕ, zero, suc, _+_, _-_, _*_, _≤_, _<_}
 use native.Mathlib.Omega.{arith}
-use borrow.Author.Tests.{eq-eqb, eqb-true}
+use borrow.Author.Tests.{eq-eqb, eqb-true, eqb-false}
 use lib.Dec.{eqb, lit≤}
 use lib.ListN.{length, getD, take, drop, set, length-append, length-take, length-drop, drop-of-length-le}
 use lib.Seq.{take-append-seam, drop-cons}
 use Rattle.wire.specs.Buffer.{overlay}
+use Rattle.wire.specs.Sum.{sumOf}
 use Rattle.wire.proofs.Buffers.{overlay-set}
 use Rattle.card.specs.Layout.{dataMost}
 use Rattle.card.specs.Reply.{Wrote}
@@ -17,10 +18,10 @@ use Rattle.card.proofs.Facts.{and-true}
 use Rattle.datalink.specs.Frame.{framed, longest, dataPlace, changeBitsBits}
 use Rattle.datalink.specs.Answer.{response}
 use Rattle.datalink.proofs.Responses.{framed-length}
-use Rattle.master.specs.Request.{Ask, Request, requestOf, namedBy, namedMost, paired}
+use Rattle.master.specs.Request.{Ask, Request, requestOf, namedBy, namedMost, paired, asAsked}
 use Rattle.master.specs.Request.Ask.{bytes, bits}
 use Rattle.master.specs.Accepted.{Accepted}
-use Rattle.master.specs.Frames.{pairs, dataOf, commandOf, body, changeBody, same, shownIn, isResponse}
+use Rattle.master.specs.Frames.{pairs, dataOf, commandOf, body, changeBody, same, shownIn, isResponse, allAsked}
 use Rattle.master.specs.declared.request.Kind.{Kind}
 use Rattle.master.specs.declared.request.Kind.the-variants.{Bytes, Bits}
 
@@ -30,6 +31,18 @@ pub pairs-length : (masks states : List ℕ) → length masks ≡ length states 
 pairs-length [] states e = refl
 pairs-length (m ∷ masks) [] e = let z : ⊥ = omega arith in absurd z
 pairs-length (m ∷ masks) (s ∷ states) e = omega (arith, pairs-length masks states (omega arith))
+
+-- mask and state i
+pub pairs-at : (masks states : List ℕ) (i : ℕ) → length masks ≡ length states → i < length masks
+    → (getD (pairs masks states) (2 * i) 0 ≡ getD masks i 0) × (getD (pairs masks states) (2 * i + 1) 0 ≡ getD states i 0)
+pairs-at [] states i e h = let z : ⊥ = omega arith in absurd z
+pairs-at (m ∷ masks) [] i e h = let z : ⊥ = omega arith in absurd z
+pairs-at (m ∷ masks) (s ∷ states) zero e h = (refl, refl)
+pairs-at (m ∷ masks) (s ∷ states) (suc i) e h =
+    let r = pairs-at masks states i (omega arith) (omega arith) in
+    let a : 2 * suc i ≡ suc (suc (2 * i)) = omega arith in
+    let b : 2 * suc i + 1 ≡ suc (suc (2 * i + 1)) = omega arith in
+    (ap (λ (j : ℕ). getD (m ∷ s ∷ pairs masks states) j 0) a ∙ r .0, ap (λ (j : ℕ). getD (m ∷ s ∷ pairs masks states) j 0) b ∙ r .1)
 
 pairs-next : (masks states : List ℕ) (i : ℕ) → i < length masks → i < length states
     → pairs (take (suc i) masks) (take (suc i) states) ≡ pairs (take i masks) (take i states) ++ (getD masks i 0 ∷ getD states i 0 ∷ [])
@@ -116,6 +129,31 @@ same-next xs ys i h k = rw (drop-cons xs i 0 h, drop-cons ys i 0 k)
 pub same-end : (xs ys : List ℕ) (i : ℕ) → length xs ≤ i → length ys ≤ i → same (drop i xs) (drop i ys) ≡ true
 unfolding same
 same-end xs ys i h k = rw (drop-of-length-le xs h, drop-of-length-le ys k)
+
+-- every byte read as asked, byte by byte
+
+pub asked-all : (a : Ask) (read : List ℕ) (k : ℕ) → allAsked a read k ≡ true → (i : ℕ) → i < k → asAsked a (getD read i 0) i ≡ getD read i 0
+unfolding allAsked
+asked-all a read zero e i h = let z : ⊥ = omega arith in absurd z
+asked-all a read (suc k) e i h =
+    let p = and-true (allAsked a read k) (eqb (asAsked a (getD read k 0) k) (getD read k 0)) e in
+    by (eqb i k) refl (asked-all a read k (p .0) i) (eqb-true (asAsked a (getD read k 0) k) (getD read k 0) (p .1))
+  where
+    by : (t : Bool) → eqb i k ≡ t → (i < k → asAsked a (getD read i 0) i ≡ getD read i 0) → asAsked a (getD read k 0) k ≡ getD read k 0 → asAsked a (getD read i 0) i ≡ getD read i 0
+    by true u r s = subst (λ (j : ℕ). asAsked a (getD read j 0) j ≡ getD read j 0) (sym (eqb-true i k u)) s
+    by false u r s = r (omega (arith, eqb-false i k u))
+
+pub all-asked : (a : Ask) (read : List ℕ) (k : ℕ) → ((i : ℕ) → i < k → asAsked a (getD read i 0) i ≡ getD read i 0) → allAsked a read k ≡ true
+unfolding allAsked
+all-asked a read zero f = refl
+all-asked a read (suc k) f = rw (all-asked a read k (λ i h. f i (omega arith)), eq-eqb (asAsked a (getD read k 0) k) (getD read k 0) (f k (omega arith)))
+
+-- the bytes that a response shows
+pub shown-response : (q : Request) (read : List ℕ) → length read ≡ namedBy (q .ask) → shownIn q (response (q .ia) (body (namedBy (q .ask)) (q .address) read)) ≡ read
+unfolding response framed
+shown-response q read e =
+    let n : dataPlace + namedBy (q .ask) - dataPlace ≡ length read = omega arith in
+    ap (λ (j : ℕ). take j (read ++ (sumOf ((32 + q .ia) ∷ body (namedBy (q .ask)) (q .address) read) ∷ []))) n ∙ take-append-seam read _
 
 -- a response to the master's interrogate is as long as it should be
 

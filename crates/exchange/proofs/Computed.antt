@@ -1,0 +1,86 @@
+-- What the runs are computed with: every definition open, a test of the premise, and a card and requests to run. Assumes nothing.
+use mathlib.Core.Path.{_≡_}
+use mathlib.Core.Bool.{Bool, true, false, _&&_, _||_, not}
+use mathlib.Core.List.{List, [], _∷_, _++_}
+use Prim.{Unit, tt}
+use Prim.Native.Nat.{ℕ}
+use native.Mathlib.Omega.{arith}
+use borrow.Author.Tests.{leb-true}
+use lib.Dec.{leb}
+use lib.ListN.{replicate}
+use Rattle.wire.specs.Choose.{choose}
+use Rattle.wire.specs.Buffer.{put, overlay}
+use Rattle.wire.specs.Sum.{total, sumOf}
+use Rattle.card.specs.Layout.{Card, cardOf, pendingSize, memorySize, registers}
+use Rattle.card.specs.Tables.{inSpan, allIn, inMemory, namesReadOnly, named, numRight, echoable, addressOf, fitPending, fitAddresses, fitParameters, fitWords, fit}
+use Rattle.card.specs.Reply.{shell, guarded}
+use Rattle.card.specs.Entries.{withCode, setCode, fullDemands, keptParameters, savedCopy, savedRegisters, dropped, faulted, restarted, restart}
+use Rattle.card.proofs.Facts.{and-true}
+use Rattle.datalink.specs.Frame.{iaIn, commandIn, numIn, addressIn, framed, commandKnown, kindOf, kindIn, namedIn, isAcknowledge, carried, lengthRight, formRight, lrcRight, rangeRight, changeAllowed, changeRight, orderIn, asked}
+use Rattle.datalink.specs.Answer.{response, iaOf, shown, interrogated, bodyOf, pended, echoed, newByte, changed, appliedTo, applied, acknowledged, obeyed, datalinkReply}
+use Rattle.master.specs.Request.{Request, askable, asAsked}
+use Rattle.master.specs.Request.Ask.{bytes, bits}
+use Rattle.master.specs.Frames.{changeFrame, acknowledgeFrame, interrogateFrame, same, echo, isEcho, isResponse, allAsked, confirms}
+use Rattle.master.specs.Step.{move, stepOf}
+use Rattle.exchange.specs.Calls.{Call, replyOf}
+use Rattle.exchange.specs.Calls.Call.{Step, Arrival, Restart, Datalink, Other}
+use Rattle.exchange.specs.Line.{World, Build, refused, closing, afterStep, afterArrival, afterRestart, called, run}
+use Rattle.exchange.specs.Premise.{writes, AtMostTwice, Quiet, AsWorded}
+
+-- to unfold this is to unfold every definition of a run
+unfoldable pub computed : Unit {0}
+unfolding choose put overlay total sumOf inSpan allIn inMemory namesReadOnly named numRight echoable addressOf fitPending fitAddresses fitParameters fitWords fit shell guarded withCode setCode fullDemands keptParameters savedCopy savedRegisters dropped faulted restarted restart iaIn commandIn numIn addressIn framed commandKnown kindOf kindIn namedIn isAcknowledge carried lengthRight formRight lrcRight rangeRight changeAllowed changeRight orderIn asked response iaOf shown interrogated bodyOf pended echoed newByte changed appliedTo applied acknowledged obeyed datalinkReply askable asAsked changeFrame acknowledgeFrame interrogateFrame same echo isEcho isResponse allAsked confirms move stepOf replyOf closing afterStep afterArrival afterRestart called run
+computed = tt
+
+-- the premise word for word, as a test
+
+abbrev allowsCall : Build → World → Call → Bool
+allowsCall b w (Step choice room) = true
+allowsCall b w (Arrival room) = leb (w .line .arrivals) 1
+allowsCall b w Restart = true
+allowsCall b w (Datalink room f) = not (writes (asked (iaOf (w .card)) f)) || refused (b .datalink (w .card) room f .number)
+allowsCall b w (Other e) = true
+
+unfoldable pub allows : Build → Request → World → List Call → Bool
+allows b q w [] = true
+allows b q w (c ∷ calls) = allowsCall b w c && allows b q (called b q w c) calls
+
+or-holds : (s t : Bool) → (not s || t) ≡ true → s ≡ true → t ≡ true
+or-holds true t e h = e
+or-holds false t e h = let z : _≡_ {A = ℕ} 0 1 = cc in let y : ⊥ = omega arith in absurd y
+
+allowed-call : (b : Build) (w : World) (c : Call) → allowsCall b w c ≡ true → AtMostTwice w c × Quiet b w c
+allowed-call b w (Step choice room) e = (tt, tt)
+allowed-call b w (Arrival room) e = (leb-true (w .line .arrivals) 1 e, tt)
+allowed-call b w Restart e = (tt, tt)
+allowed-call b w (Datalink room f) e = (tt, or-holds (writes (asked (iaOf (w .card)) f)) (refused (b .datalink (w .card) room f .number)) e)
+allowed-call b w (Other x) e = (tt, tt)
+
+pub allowed : (b : Build) (q : Request) (w : World) (calls : List Call) → allows b q w calls ≡ true → AsWorded b q w calls
+unfolding allows AsWorded
+allowed b q w [] e = tt
+allowed b q w (c ∷ calls) e =
+    let p = and-true (allowsCall b w c) (allows b q (called b q w c) calls) e in
+    (allowed-call b w c (p .0), allowed b q (called b q w c) calls (p .1))
+
+-- a card of I.A. 3 whose memory is FFh throughout, with this pending change
+abbrev pub cardWith : List ℕ → Card
+cardWith pending =
+    cardOf
+    (3 ∷ 11 ∷ 0x32 ∷ (replicate 4 0 ++ (replicate 4 65535 ++ (parameters ++ (parameters ++ replicate 288 0)))))
+    (replicate 4096 255)
+    pending
+  where
+    parameters : List ℕ
+    parameters = 1000000 ∷ 0 ∷ 1000000 ∷ 0 ∷ 1000000 ∷ 0 ∷ 1000000 ∷ 0 ∷ []
+
+abbrev pub fresh : Card
+fresh = cardWith (replicate 36 0)
+
+-- another's Change of the byte 1020h to 7 is pending
+abbrev pub stale : Card
+stale = cardWith (1 ∷ 1 ∷ 0x20 ∷ 0x10 ∷ 7 ∷ replicate 31 0)
+
+-- 08h and 0Ch to 1010h and 1011h
+abbrev pub two : Request
+two = record { ia = 3; address = 0x1010; ask = bytes (8 ∷ 12 ∷ []) }

@@ -1,0 +1,10 @@
+pub mod Orders
+pub mod Arrivals
+pub mod Memory
+pub mod Invariant
+pub mod Arriving
+pub mod Stepping
+pub mod Demand3
+pub mod Computed
+pub mod Runs
+pub mod Refuted

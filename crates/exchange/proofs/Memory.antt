@@ -1,0 +1,227 @@
+-- Writable memory and the pending change under each call of the card. Assumes nothing.
+use mathlib.Core.Path.{_≡_, refl, sym, ap, ap₂, _∙_, subst}
+use mathlib.Core.Bool.{Bool, true, false, _&&_, not}
+use mathlib.Core.List.{List, [], _∷_, _++_}
+use mathlib.Core.Logic.{_⊎_}
+use mathlib.Core.Logic._⊎_.{inl, inr}
+use Prim.Native.Nat.{ℕ, zero, suc, _+_, _-_, _*_, _%_, _/_, _≤_, _<_}
+use native.Mathlib.Omega.{arith}
+use borrow.Author.Tests.{leb-true, ltb-true, ltb-false, eqb-true, eqb-false, not-true}
+use lib.Bits.{bitAnd, bitOr}
+use lib.Dec.{leb, ltb, eqb}
+use lib.ListN.{length, getD, drop, set, replicate, length-set, List·getD-append}
+use lib.Seq.{getD-drop, getD-append-add, getD-set-same, getD-set-other}
+use Rattle.wire.specs.Choose.{choose}
+use Rattle.wire.specs.Buffer.{put, overlay}
+use Rattle.wire.proofs.Cases.{by-choice}
+use Rattle.card.specs.Numbers.{cardUnfit, bufferShort, rangeUnknown, imageLength, imagePadding, done, answered}
+use Rattle.card.specs.Layout.{Card, channels, memorySize, kindAt, dataAt}
+use Rattle.card.specs.Tables.{memoryStart, memoryEnd, writableStart, inMemory, namesReadOnly, noChange, changeBits, addressOf, named, fit}
+use Rattle.card.specs.Probe.{faultCode}
+use Rattle.card.specs.Reply.{Reply, WordsReply, silent, sent, onWords, shell, guarded, roomLeast}
+use Rattle.card.specs.Entries.{dropped, faulted, restarted, restart, withCode, setCode}
+use Rattle.card.proofs.Facts.{and-true, fit-facts}
+use Rattle.datalink.specs.Answer.{newByte, changed, appliedTo, applied, pended}
+use Rattle.lecom.specs.Answer.{lecomReply}
+use Rattle.love.specs.Answer.{loveReply}
+use Rattle.lucid.specs.Answer.{lucidReply}
+use Rattle.image.specs.Form.{imageSize}
+use Rattle.image.specs.Saved.{imageOf, paddingOf, restored}
+use Rattle.image.specs.Entries.{writeImage, readImage}
+use Rattle.master.specs.Request.{Ask, Request, namedBy, paired, asAsked}
+use Rattle.master.specs.Request.Ask.{bytes, bits}
+use Rattle.master.specs.Accepted.{Accepted}
+use Rattle.master.specs.Frames.{pairs, dataOf, changeBody}
+use Rattle.master.proofs.Frames.{pairs-length, pairs-at}
+use Rattle.exchange.specs.Calls.{Entry, replyOf}
+use Rattle.exchange.specs.Calls.Entry.{SetCode, Governor, Lecom, Love, Lucid, WriteImage, ReadImage}
+use Rattle.exchange.specs.Demand.{writableRange}
+use Rattle.exchange.proofs.Orders.{kindFor, named-for}
+
+-- a change applied byte by byte
+
+module _ (kind a : ℕ) (data′ : List ℕ) where
+  changed-length : (k : ℕ) (m : List ℕ) → length (changed kind a data′ k m) ≡ length m
+  unfolding changed
+  changed-length zero m = refl
+  changed-length (suc k) m = rw length-set (changed-length k m)
+
+  changed-other : (k : ℕ) (m : List ℕ) (j : ℕ) → ((i : ℕ) → i < k → j ≡ a + i → ⊥) → getD (changed kind a data′ k m) j 0 ≡ getD m j 0
+  unfolding changed
+  changed-other zero m j out = refl
+  changed-other (suc k) m j out = getD-set-other (changed kind a data′ k m) (a + k) j _ 0 (out k (omega arith)) ∙ changed-other k m j (λ i h. out i (omega arith))
+
+  changed-at : (k : ℕ) (m : List ℕ) (i : ℕ) → i < k → a + k ≤ length m → getD (changed kind a data′ k m) (a + i) 0 ≡ newByte kind (getD m (a + i) 0) data′ i
+  unfolding changed
+  changed-at zero m i h l = let z : ⊥ = omega arith in absurd z
+  changed-at (suc k) m i h l = by (eqb i k) refl (changed-at k m i)
+    where
+      by : (t : Bool) → eqb i k ≡ t → (i < k → a + k ≤ length m → getD (changed kind a data′ k m) (a + i) 0 ≡ newByte kind (getD m (a + i) 0) data′ i)
+          → getD (set (changed kind a data′ k m) (a + k) (newByte kind (getD (changed kind a data′ k m) (a + k) 0) data′ k)) (a + i) 0 ≡ newByte kind (getD m (a + i) 0) data′ i
+      by true e r =
+          let same : i ≡ k = eqb-true i k e in
+          rw same (getD-set-same (changed kind a data′ k m) (a + k) _ 0 (rw (changed-length k m) (omega arith)) ∙ ap (λ (x : ℕ). newByte kind x data′ k) (changed-other k m (a + k) (λ j g u. omega arith)))
+      by false e r =
+          let apart : i ≡ k → ⊥ = eqb-false i k e in
+          getD-set-other (changed kind a data′ k m) (a + k) (a + i) _ 0 (λ u. apart (omega arith)) ∙ r (omega arith) (omega arith)
+
+-- what a writable range is, as plain facts
+pub record Range (q : Request) : Type 0 where
+  pub low : memoryStart ≤ q .address
+  pub high : q .address + namedBy (q .ask) ≤ memoryEnd
+  pub above : (i : ℕ) → i < namedBy (q .ask) → writableStart ≤ q .address
+
+pub range : (q : Request) → writableRange q ≡ true → Range q
+unfolding inMemory namesReadOnly
+range q e =
+    let n = namedBy (q .ask) in
+    let p = and-true (inMemory (q .address) n) (not (namesReadOnly (q .address) n)) e in
+    let m = and-true (leb memoryStart (q .address)) (leb (q .address + n) memoryEnd) (p .0) in
+    record { low = leb-true memoryStart (q .address) (m .0); high = leb-true (q .address + n) memoryEnd (m .1); above = λ i h. by (eqb n 0) (ltb (q .address) writableStart) refl refl (p .1) i h }
+  where
+    by : (s t : Bool) → eqb (namedBy (q .ask)) 0 ≡ s → ltb (q .address) writableStart ≡ t → not (not s && t) ≡ true → (i : ℕ) → i < namedBy (q .ask) → writableStart ≤ q .address
+    by true t u v f i h = let z : ⊥ = omega (arith, eqb-true (namedBy (q .ask)) 0 u) in absurd z
+    by false true u v f i h = let z : _≡_ {A = ℕ} 0 1 = cc in let y : ⊥ = omega arith in absurd y
+    by false false u v f i h = ltb-false (q .address) writableStart v
+
+-- memory from 1010h on is the same
+pub record Same (card card′ : Card) : Type 0 where
+  pub at : (j : ℕ) → writableStart - memoryStart ≤ j → getD (card′ .memory) j 0 ≡ getD (card .memory) j 0
+
+-- the master's change is pending
+pub record Ours (q : Request) (pending : List ℕ) : Type 0 where
+  pub rest : List ℕ
+  pub front : pending ≡ (kindFor (q .ask) ∷ changeBody q) ++ rest
+
+-- nothing is pending
+pub record None (pending : List ℕ) : Type 0 where
+  pub kind : getD pending kindAt 0 ≡ noChange
+
+none-dropped : (p : List ℕ) → None (dropped p)
+unfolding dropped
+none-dropped [] = record { kind = refl }
+none-dropped (x ∷ p) = record { kind = refl }
+
+-- the echo: memory stays, and the change is the pending one
+pub ours-pended : (q : Request) (card : Card) → Ours q (pended card (kindFor (q .ask)) (changeBody q) .pending)
+unfolding pended overlay
+ours-pended q card = record { rest = _; front = refl }
+
+pub same-pended : (q : Request) (card : Card) → Same card (pended card (kindFor (q .ask)) (changeBody q))
+unfolding pended
+same-pended q card = record { at = λ j h. refl }
+
+-- the acknowledge
+
+-- the byte that is applied is the one asked for; only the data sent is read
+new-asked : (a : Ask) → paired a ≡ true → (rest : List ℕ) (old i : ℕ) → i < namedBy a → newByte (kindFor a) old (dataOf a ++ rest) i ≡ asAsked a old i
+unfolding newByte asAsked choose
+new-asked (bytes sent) e rest old i h = List·getD-append sent rest 0 i h
+new-asked (bits masks states) e rest old i h =
+    let l = eqb-true (length masks) (length states) e in
+    let n = pairs-length masks states l in
+    let p = pairs-at masks states i l h in
+    ap₂ (λ (m s : ℕ). bitOr (bitAnd old m) s)
+    (List·getD-append (pairs masks states) rest 0 (2 * i) (omega arith) ∙ p .0)
+    (List·getD-append (pairs masks states) rest 0 (2 * i + 1) (omega arith) ∙ p .1)
+
+-- the named bytes are as asked of those of another card, the others are the same
+pub record AskedOf (q : Request) (card card′ : Card) : Type 0 where
+  pub asked : (i : ℕ) → i < namedBy (q .ask) → getD (card′ .memory) (q .address - memoryStart + i) 0 ≡ asAsked (q .ask) (getD (card .memory) (q .address - memoryStart + i) 0) i
+  pub others : (j : ℕ) → writableStart - memoryStart ≤ j → ((i : ℕ) → i < namedBy (q .ask) → j ≡ q .address - memoryStart + i → ⊥) → getD (card′ .memory) j 0 ≡ getD (card .memory) j 0
+
+pub none-applied : (card : Card) → None (applied card .pending)
+unfolding applied
+none-applied card = none-dropped (card .pending)
+
+module _ (q : Request) (a : Accepted q) (r : Range q) (card : Card) (e : fit card ≡ true) (o : Ours q (card .pending)) where
+  applied-memory : applied card .memory ≡ changed (kindFor (q .ask)) (q .address - memoryStart) (dataOf (q .ask) ++ o .rest) (namedBy (q .ask)) (card .memory)
+  unfolding applied appliedTo addressOf
+  applied-memory =
+      let at : q .address % 256 + 256 * (q .address / 256) ≡ q .address = omega arith in
+      rw (o .front, at, named-for (q .ask) (a .pairs))
+
+  pub asked-applied : AskedOf q card (applied card)
+  asked-applied =
+      let f = fit-facts card e in
+      let sent = dataOf (q .ask) ++ o .rest in
+      let at = q .address - memoryStart in
+      let n = namedBy (q .ask) in
+      record {
+        asked = λ i h.
+            ap (λ (m : List ℕ). getD m (at + i) 0) applied-memory
+            ∙ changed-at (kindFor (q .ask)) at sent n (card .memory) i h (omega (arith, f .memory-length, r .high, r .low))
+            ∙ new-asked (q .ask) (a .pairs) (o .rest) (getD (card .memory) (at + i) 0) i h;
+        others = λ j h out. ap (λ (m : List ℕ). getD m j 0) applied-memory ∙ changed-other (kindFor (q .ask)) at sent n (card .memory) j out;
+      }
+
+-- every other call of the card: memory from 1010h on stays, and the pending change stays or is dropped
+pub record Mild (card card′ : Card) : Type 0 where
+  pub memory : Same card card′
+  pub pending : (card′ .pending ≡ card .pending) ⊎ None (card′ .pending)
+
+pub mild-self : (card card′ : Card) → card′ ≡ card → Mild card card′
+mild-self card card′ e = subst (Mild card) (sym e) (record { memory = record { at = λ j h. refl }; pending = inl refl })
+
+abbrev MildReply : Card → Reply → Type 0
+MildReply card r = Mild card (r .card)
+
+mild-silent : (card : Card) (number : ℕ) → MildReply card (silent number card)
+mild-silent card number = mild-self card card refl
+
+mild-guarded : (card : Card) (r : Reply) → MildReply card r → MildReply card (guarded card r)
+unfolding guarded
+mild-guarded card r m = by-choice (MildReply card) (fit card) _ _ (λ _. m) (λ _. mild-silent card cardUnfit)
+
+mild-shell : (least : ℕ) (card : Card) (room : ℕ) (r : Reply) → MildReply card r → MildReply card (shell least card room r)
+unfolding shell
+mild-shell least card room r m =
+    by-choice (MildReply card) (fit card) _ _ (λ _. by-choice (MildReply card) (leb least room) _ _ (λ _. m) (λ _. mild-silent card bufferShort)) (λ _. mild-silent card cardUnfit)
+
+-- a meaning over the words alone
+mild-words : (card card′ : Card) → card′ .memory ≡ card .memory → card′ .pending ≡ card .pending → Mild card card′
+mild-words card card′ m p = record { memory = record { at = λ j h. ap (λ (l : List ℕ). getD l j 0) m }; pending = inl p }
+
+pub mild-restart : (card : Card) → Mild card (restart card .card)
+unfolding restart restarted faulted put
+mild-restart card =
+    mild-guarded card _
+    (record {
+      memory = record {
+        at = λ j h.
+            let u : channels + (j - channels) ≡ j = omega arith in
+            subst (λ (x : ℕ). getD (replicate channels faultCode ++ drop channels (card .memory)) x 0 ≡ getD (card .memory) x 0) u
+            (getD-append-add (replicate channels faultCode) (drop channels (card .memory)) (j - channels) 0 ∙ getD-drop channels (card .memory) (j - channels) 0);
+      };
+      pending = inr (none-dropped (card .pending));
+    })
+
+mild-code : (card : Card) (channel code : ℕ) → MildReply card (setCode card channel code)
+unfolding setCode withCode
+mild-code card channel code =
+    mild-guarded card _
+    (by-choice (MildReply card) (ltb channel channels) _ _
+    (λ t. record { memory = record { at = λ j h. getD-set-other (card .memory) channel j code 0 (λ u. omega (arith, ltb-true channel channels t)) }; pending = inl refl })
+    (λ _. mild-silent card rangeUnknown))
+
+mild-read : (card : Card) (img : List ℕ) → MildReply card (readImage card img)
+unfolding readImage restored
+mild-read card img =
+    by-choice (MildReply card) (fit card) _ _
+    (λ _. by-choice (MildReply card) (eqb (length img) imageSize) _ _
+    (λ _. by-choice (MildReply card) (eqb (paddingOf img) 0) _ _
+    (λ _. by-choice (MildReply card) (fit (restored card img)) _ _ (λ _. mild-words card (restored card img) refl refl) (λ _. mild-silent card cardUnfit))
+    (λ _. mild-silent card imagePadding))
+    (λ _. mild-silent card imageLength))
+    (λ _. mild-silent card cardUnfit)
+
+-- a line for each entry
+pub mild-entry : (card : Card) (x : Entry) → Mild card (replyOf card x .card)
+unfolding replyOf lecomReply loveReply lucidReply writeImage
+mild-entry card (SetCode channel code) = mild-code card channel code
+mild-entry card (Governor channel) = mild-self card card refl
+mild-entry card (Lecom room f) = mild-shell roomLeast card room _ (mild-words card _ refl refl)
+mild-entry card (Love room f) = mild-shell roomLeast card room _ (mild-words card _ refl refl)
+mild-entry card (Lucid room f) = mild-shell roomLeast card room _ (mild-words card _ refl refl)
+mild-entry card (WriteImage room) = mild-shell imageSize card room (sent answered (imageOf (card .words)) card) (mild-self card card refl)
+mild-entry card (ReadImage img) = mild-read card img

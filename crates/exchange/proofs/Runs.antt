@@ -1,0 +1,122 @@
+-- Runs of the written meanings, computed: what the master says and what the card then holds. Each is allowed by the premise, word for word. Assumes nothing.
+use mathlib.Core.Path.{_≡_, refl}
+use mathlib.Core.Bool.{true}
+use mathlib.Core.List.{List, [], _∷_, _++_}
+use Prim.Native.Nat.{ℕ}
+use lib.ListN.{replicate}
+use Rattle.card.specs.Layout.{Card}
+use Rattle.master.specs.Request.{Request, askable}
+use Rattle.master.specs.Request.Ask.{bytes, bits}
+use Rattle.master.specs.Frames.{changeFrame, acknowledgeFrame}
+use Rattle.master.specs.Step.{saysOf}
+use Rattle.master.specs.declared.Verdict.{Verdict}
+use Rattle.master.specs.declared.Verdict.the-variants.{Open, Done, Unknown}
+use Rattle.exchange.specs.Calls.{Call}
+use Rattle.exchange.specs.Calls.Choice.{none, answer}
+use Rattle.exchange.specs.Calls.Call.{Step, Arrival, Restart, Datalink, Other}
+use Rattle.exchange.specs.Calls.Entry.{SetCode, Lecom}
+use Rattle.exchange.specs.Line.{begin, ours, run}
+use Rattle.exchange.specs.Demand.{byteAt}
+use Rattle.exchange.proofs.Computed.{computed, allows, fresh, stale, cardWith, two}
+
+-- after these calls, which the premise allows, the master says this and the byte at an address is this
+pub record Runs (q : Request) (start : Card) (calls : List Call) (says : Verdict) (address byte : ℕ) : Type 0 where
+  pub asked : askable q ≡ true
+  pub allowed : allows ours q (begin start) calls ≡ true
+  pub said : saysOf (run ours q (begin start) calls .phase) ≡ says
+  pub held : byteAt (run ours q (begin start) calls .card) address ≡ byte
+
+-- a step that gets an answer, one that gets none, an arrival
+abbrev hears : Call
+hears = Step (answer 0) 38
+
+abbrev alone : Call
+alone = Step none 38
+
+abbrev arrives : Call
+arrives = Arrival 38
+
+-- three rounds without loss
+abbrev whole : List Call
+whole = alone ∷ arrives ∷ hears ∷ arrives ∷ alone ∷ arrives ∷ hears ∷ []
+
+-- done: bytes
+
+bytes-done : Runs two fresh whole Done 0x1011 12
+unfolding computed allows
+bytes-done = record { asked = refl; allowed = refl; said = refl; held = refl }
+
+-- done: bits, mask F0h and state 01h, at the end of memory
+bits-done : Runs (record { ia = 3; address = 0x1FFE; ask = bits (0xF0 ∷ 0xFF ∷ []) (0x01 ∷ 0x00 ∷ []) }) fresh whole Done 0x1FFE 0xF1
+unfolding computed allows
+bits-done = record { asked = refl; allowed = refl; said = refl; held = refl }
+
+-- done: NUM 0, at the address after the last
+nothing-done : Runs (record { ia = 3; address = 0x2000; ask = bytes [] }) fresh whole Done 0x1FFF 255
+unfolding computed allows
+nothing-done = record { asked = refl; allowed = refl; said = refl; held = refl }
+
+-- nothing yet, with the bytes as asked already
+open-changed : Runs two fresh (alone ∷ arrives ∷ hears ∷ arrives ∷ []) Open 0x1010 8
+unfolding computed allows
+open-changed = record { asked = refl; allowed = refl; said = refl; held = refl }
+
+-- the read-back is lost: unknown, with the bytes as asked
+unknown-changed : Runs two fresh (alone ∷ arrives ∷ hears ∷ arrives ∷ alone ∷ arrives ∷ alone ∷ []) Unknown 0x1010 8
+unfolding computed allows
+unknown-changed = record { asked = refl; allowed = refl; said = refl; held = refl }
+
+-- the acknowledge is lost: unknown, with the bytes old
+unknown-old : Runs two fresh (alone ∷ arrives ∷ hears ∷ alone ∷ arrives ∷ hears ∷ []) Unknown 0x1010 255
+unfolding computed allows
+unknown-old = record { asked = refl; allowed = refl; said = refl; held = refl }
+
+-- a restart between: the acknowledge finds nothing pending
+restart-between : Runs two fresh (alone ∷ arrives ∷ hears ∷ Restart ∷ arrives ∷ alone ∷ arrives ∷ hears ∷ []) Unknown 0x1010 255
+unfolding computed allows
+restart-between = record { asked = refl; allowed = refl; said = refl; held = refl }
+
+-- a restart between the change's two arrivals
+restart-harmless : Runs two fresh (alone ∷ arrives ∷ Restart ∷ arrives ∷ hears ∷ arrives ∷ alone ∷ arrives ∷ hears ∷ []) Done 0x1010 8
+unfolding computed allows
+restart-harmless = record { asked = refl; allowed = refl; said = refl; held = refl }
+
+-- the acknowledge was lost, but the bytes were as asked: asking twice is asking once
+already-so : Runs (record { ia = 3; address = 0x1010; ask = bytes (255 ∷ []) }) fresh (alone ∷ arrives ∷ hears ∷ alone ∷ arrives ∷ hears ∷ []) Done 0x1010 255
+unfolding computed allows
+already-so = record { asked = refl; allowed = refl; said = refl; held = refl }
+
+-- every frame twice; the first arrival of the acknowledge refused for its buffer, a step refused for its own
+doubled : Runs two fresh (alone ∷ arrives ∷ arrives ∷ Step (answer 1) 37 ∷ Step (answer 1) 38 ∷ Arrival 37 ∷ arrives ∷ alone ∷ arrives ∷ arrives ∷ hears ∷ []) Done 0x1010 8
+unfolding computed allows
+doubled = record { asked = refl; allowed = refl; said = refl; held = refl }
+
+-- a stale pending change at the start is never applied
+stale-start : Runs two stale whole Done 0x1020 255
+unfolding computed allows
+stale-start = record { asked = refl; allowed = refl; said = refl; held = refl }
+
+-- the master's own frames sent once more by others: the acknowledge after the end is refused, and so is the change where the buffer is short
+sent-again : Runs two fresh (whole ++ (Datalink 38 (acknowledgeFrame two) ∷ Datalink 37 (changeFrame two) ∷ [])) Done 0x1010 8
+unfolding computed allows
+sent-again = record { asked = refl; allowed = refl; said = refl; held = refl }
+
+-- read-only: no echo, so the exchange ends there
+read-only : Runs (record { ia = 3; address = 0x100F; ask = bytes (8 ∷ 12 ∷ []) }) fresh (alone ∷ arrives ∷ alone ∷ []) Unknown 0x1010 255
+unfolding computed allows
+read-only = record { asked = refl; allowed = refl; said = refl; held = refl }
+
+-- half in memory
+half-inside : Runs (record { ia = 3; address = 0x1FFF; ask = bytes (8 ∷ 12 ∷ []) }) fresh (alone ∷ arrives ∷ alone ∷ []) Unknown 0x1FFF 255
+unfolding computed allows
+half-inside = record { asked = refl; allowed = refl; said = refl; held = refl }
+
+-- tables of wrong length: every call of the card is refused
+unfit-tables : Runs two (cardWith []) (alone ∷ arrives ∷ alone ∷ []) Unknown 0x1010 255
+unfolding computed allows
+unfit-tables = record { asked = refl; allowed = refl; said = refl; held = refl }
+
+-- other entries between the rounds
+others-between : Runs two fresh (alone ∷ arrives ∷ Other (SetCode 0 90) ∷ hears ∷ Other (SetCode 4 90) ∷ arrives ∷ alone ∷ arrives ∷ hears ∷ []) Done 0x1000 90
+unfolding computed allows
+others-between = record { asked = refl; allowed = refl; said = refl; held = refl }

@@ -1,0 +1,156 @@
+-- The line between master and card, and what a list of calls makes of master, card and line.
+-- Document 01, "Datalink", second half: rounds, arrivals, and what a lossless round is.
+use Prim.Native.Nat.{ℕ, zero, suc}
+use mathlib.Core.Bool.{Bool, true, false, _&&_, _||_, not}
+use mathlib.Core.List.{List, [], _∷_}
+use lib.Dec.{leb, ltb, eqb}
+use lib.ListN.{length}
+use Rattle.wire.specs.Choose.{choose}
+use Rattle.card.specs.Numbers.{answered, foreignAddress}
+use Rattle.card.specs.Layout.{Card}
+use Rattle.card.specs.Entries.{restart}
+use Rattle.card.specs.Reply.{Reply}
+use Rattle.datalink.specs.Answer.{datalinkReply}
+use Rattle.master.specs.Request.{Request}
+use Rattle.master.specs.Step.{Move, stepOf}
+use Rattle.master.specs.declared.Phase.{Phase}
+use Rattle.master.specs.declared.Phase.the-variants.{New}
+use Rattle.exchange.specs.Calls.{Choice, Entry, Call, replyOf}
+use Rattle.exchange.specs.Calls.Choice.{none, answer}
+use Rattle.exchange.specs.Calls.Call.{Step, Arrival, Restart, Datalink, Other}
+
+-- "Refused is any number but 0 and 1"
+abbrev pub refused : ℕ → Bool
+refused number = leb foreignAddress number
+
+pub record Line : Type 0 where
+  -- the frame last sent; none is [], before the first one and after the end
+  pub frame : List ℕ
+  -- how many frames were sent: the first is the change, the second the acknowledge, the third the interrogate
+  pub frames : ℕ
+  -- the answers that its arrivals in this round got with 0, the last first
+  pub answers : List (List ℕ)
+  -- how often it arrived in this round
+  pub arrivals : ℕ
+  -- it arrived in this round, and its first arrival was not refused
+  pub reached : Bool
+  -- for each round that was closed, the last first: whether it was lossless
+  pub closed : List Bool
+  -- a restart fell between the first arrivals of change and acknowledge
+  pub between : Bool
+
+abbrev pub changeRound : ℕ
+changeRound = 1
+
+abbrev pub acknowledgeRound : ℕ
+acknowledgeRound = 2
+
+-- "with none or one of the answers that this frame's arrivals in the round got with 0": [] is none
+abbrev pub nth : List (List ℕ) → ℕ → List ℕ
+nth [] k = []
+nth (a ∷ rest) zero = a
+nth (a ∷ rest) (suc k) = nth rest k
+
+abbrev pub heard : Line → Choice → List ℕ
+heard line none = []
+heard line (answer k) = nth (line .answers) k
+
+abbrev pub isAnswer : List ℕ → Bool
+isAnswer [] = false
+isAnswer (b ∷ bytes) = true
+
+-- "A round is lossless if its frame arrives, the first arrival is not refused and, but for acknowledge, its closing step gets an answer"
+abbrev pub lossless : Line → List ℕ → Bool
+lossless line got = line .reached && (eqb (line .frames) acknowledgeRound || isAnswer got)
+
+-- the rounds closed by a step that is not refused: "each later such step closes the round of the frame last sent"
+unfoldable pub closing : Line → List ℕ → List Bool
+closing line got = choose (ltb (length (line .closed)) (line .frames)) (lossless line got ∷ line .closed) (line .closed)
+
+-- the line after a step; a refused one closes no round
+unfoldable pub afterStep : Line → List ℕ → Move → Line
+afterStep line got m =
+    choose (refused (m .number))
+    line
+    (record {
+      frame = m .bytes;
+      frames = choose (eqb (m .number) answered) (suc (line .frames)) (line .frames);
+      answers = [];
+      arrivals = 0;
+      reached = false;
+      closed = closing line got;
+      between = line .between;
+    })
+
+-- the line after an arrival of the frame last sent, which got this reply
+unfoldable pub afterArrival : Line → Reply → Line
+afterArrival line r =
+    record {
+      frame = line .frame;
+      frames = line .frames;
+      answers = choose (eqb (r .number) answered) (r .bytes ∷ line .answers) (line .answers);
+      arrivals = suc (line .arrivals);
+      reached = choose (eqb (line .arrivals) 0) (not (refused (r .number))) (line .reached);
+      closed = line .closed;
+      between = line .between;
+    }
+
+-- the change has arrived, and the acknowledge has not
+abbrev pub halfway : Line → Bool
+halfway line = (eqb (line .frames) changeRound && ltb 0 (line .arrivals)) || (eqb (line .frames) acknowledgeRound && eqb (line .arrivals) 0)
+
+unfoldable pub afterRestart : Line → Line
+afterRestart line =
+    record {
+      frame = line .frame;
+      frames = line .frames;
+      answers = line .answers;
+      arrivals = line .arrivals;
+      reached = line .reached;
+      closed = line .closed;
+      between = line .between || halfway line;
+    }
+
+-- the card's tables, the master's state and the line
+pub record World : Type 0 where
+  pub card : Card
+  pub phase : Phase
+  pub line : Line
+
+-- "The list starts from a new master .. and any tables, fit or not"
+abbrev pub begin : Card → World
+begin card =
+    record {
+      card = card;
+      phase = New;
+      line = record { frame = []; frames = 0; answers = []; arrivals = 0; reached = false; closed = []; between = false };
+    }
+
+-- a master's step and a card's entries, so that wrong ones can be put to the claim
+pub record Build : Type 0 where
+  pub step : Request → Phase → List ℕ → ℕ → Move
+  pub datalink : Card → ℕ → List ℕ → Reply
+  pub restart : Card → Reply
+  pub entry : Card → Entry → Reply
+
+-- ours: the written meanings, which the entries' contracts equate with the code
+abbrev pub ours : Build
+ours = record { step = stepOf; datalink = datalinkReply; restart = restart; entry = replyOf }
+
+-- "Each step gets that request and the master's state as the last step returned it, each call of the card the tables as the last one left them"
+unfoldable pub called : Build → Request → World → Call → World
+called b q w (Step choice room) =
+    let got = heard (w .line) choice in
+    let m = b .step q (w .phase) got room in
+    record { card = w .card; phase = m .phase; line = afterStep (w .line) got m }
+called b q w (Arrival room) =
+    let r = b .datalink (w .card) room (w .line .frame) in
+    record { card = r .card; phase = w .phase; line = afterArrival (w .line) r }
+called b q w Restart = record { card = b .restart (w .card) .card; phase = w .phase; line = afterRestart (w .line) }
+called b q w (Datalink room f) = record { card = b .datalink (w .card) room f .card; phase = w .phase; line = w .line }
+called b q w (Other e) = record { card = b .entry (w .card) e .card; phase = w .phase; line = w .line }
+
+-- what a list of calls makes of a world
+unfoldable pub run : Build → Request → World → List Call → World
+run b q w [] = w
+run b q w (c ∷ calls) = run b q (called b q w c) calls
