@@ -76,3 +76,29 @@ entries! {
     nk_write_image(image: *mut u8, image_count: usize, len: *mut usize);
     nk_read_image(image: *const u8, image_count: usize);
 }
+
+extern "C" {
+    pub fn nk_step(
+        phase: *mut u8,
+        kind: u8,
+        ia: u32,
+        address: u32,
+        sent: *const u8,
+        sent_count: usize,
+        states: *const u8,
+        states_count: usize,
+        answer: *const u8,
+        answer_count: usize,
+        frame: *mut u8,
+        frame_count: usize,
+        len: *mut usize,
+    ) -> u8;
+}
+
+/// The master's phases that say something, and the one it begins with.
+pub const NEW: u8 = 0;
+pub const ENDED_DONE: u8 = 4;
+pub const ENDED_UNKNOWN: u8 = 5;
+/// Kinds of a request.
+pub const BYTES: u8 = 0;
+pub const BITS: u8 = 1;

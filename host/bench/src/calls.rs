@@ -1,6 +1,7 @@
 //! One call of an entry, made on either side.
 
 use reference::card::{governor, restart, set_probe, Card, Governor};
+use reference::master::{step, Master, Order, Request as MasterRequest, Says};
 use reference::numbers::{Number, Reply};
 
 use crate::archive::{self, Tables};
@@ -20,10 +21,11 @@ pub enum Entry {
     Lucid,
     WriteImage,
     ReadImage,
+    Step,
 }
 
 impl Entry {
-    pub const ALL: [Self; 9] = [
+    pub const ALL: [Self; 10] = [
         Self::SetCode,
         Self::Restart,
         Self::Governor,
@@ -33,6 +35,7 @@ impl Entry {
         Self::Lucid,
         Self::WriteImage,
         Self::ReadImage,
+        Self::Step,
     ];
 
     /// The entry's name in the library.
@@ -47,6 +50,7 @@ impl Entry {
             Self::Lucid => "nk_lucid",
             Self::WriteImage => "nk_write_image",
             Self::ReadImage => "nk_read_image",
+            Self::Step => "nk_step",
         }
     }
 
@@ -62,18 +66,35 @@ impl Entry {
             Self::Lucid => archive::nk_lucid as *const () as usize,
             Self::WriteImage => archive::nk_write_image as *const () as usize,
             Self::ReadImage => archive::nk_read_image as *const () as usize,
+            Self::Step => archive::nk_step as *const () as usize,
         }
     }
 }
 
-/// A call: an entry and its arguments.
+/// A call: an entry and its arguments, as far as it has them.
 pub struct Request {
     pub entry: Entry,
     pub channel: u32,
     pub code: u8,
-    /// The frame, or the image to read.
+    /// The frame, the image to read, or the bytes or masks that the master sends.
     pub bytes: Vec<u8>,
+    pub ask: Ask,
 }
+
+/// The rest of the master's request, for the unit at I.A. 3, and the answer to its last frame.
+#[derive(Default)]
+pub struct Ask {
+    /// Whether the exchange begins with this step.
+    pub begins: bool,
+    /// [`archive::BYTES`] or [`archive::BITS`].
+    pub kind: u8,
+    pub address: u32,
+    pub states: Vec<u8>,
+    pub answer: Vec<u8>,
+}
+
+/// The I.A. that the master speaks to.
+pub const IA: u32 = 3;
 
 /// A card on both sides, the buffers, and what the last call gave.
 pub struct Bed {
@@ -83,6 +104,8 @@ pub struct Bed {
     pub number: u8,
     pub len: usize,
     pub degrees: f32,
+    pub phase: u8,
+    pub master: Master,
 }
 
 impl Bed {
@@ -94,6 +117,8 @@ impl Bed {
             number: 0,
             len: 0,
             degrees: 0.0,
+            phase: archive::NEW,
+            master: Master::new(),
         }
     }
 }
@@ -180,7 +205,33 @@ fn archive_thunk(entry: Entry) -> Thunk {
         Entry::ReadImage => |bed, request| {
             bed.number = lent!(nk_read_image, bed, request.bytes.as_ptr(), request.bytes.len());
         },
+        Entry::Step => archive_step,
     }
+}
+
+fn archive_step(bed: &mut Bed, request: &Request) {
+    let (ask, sent, frame) = (&request.ask, &request.bytes, &mut bed.answer);
+    if ask.begins {
+        bed.phase = archive::NEW;
+    }
+    // As above: live vectors that do not overlap.
+    bed.number = unsafe {
+        archive::nk_step(
+            &mut bed.phase,
+            ask.kind,
+            IA,
+            ask.address,
+            sent.as_ptr(),
+            sent.len(),
+            ask.states.as_ptr(),
+            ask.states.len(),
+            ask.answer.as_ptr(),
+            ask.answer.len(),
+            frame.as_mut_ptr(),
+            frame.len(),
+            &mut bed.len,
+        )
+    };
 }
 
 fn second_thunk(entry: Entry) -> Thunk {
@@ -222,7 +273,31 @@ fn second_thunk(entry: Entry) -> Thunk {
         Entry::ReadImage => |bed, request| {
             bed.number = reference::image::load(&mut bed.card, &request.bytes) as u8;
         },
+        Entry::Step => second_step,
     }
+}
+
+fn second_step(bed: &mut Bed, request: &Request) {
+    let ask = &request.ask;
+    if ask.begins {
+        bed.master = Master::new();
+    }
+    let order = match ask.kind {
+        archive::BYTES => Order::Bytes(&request.bytes),
+        _ => Order::Bits {
+            masks: &request.bytes,
+            states: &ask.states,
+        },
+    };
+    let asked = MasterRequest {
+        ia: IA,
+        address: ask.address,
+        order,
+    };
+    let answer = (!ask.answer.is_empty()).then_some(&ask.answer[..]);
+    let given = step(&mut bed.master, &asked, answer, &mut bed.answer);
+    bed.number = given.number as u8;
+    bed.len = given.length;
 }
 
 #[inline]
@@ -244,4 +319,10 @@ pub fn agree(bed: &mut Bed, request: &Request, name: &str) {
         "{name}: the library gives {archive:?}, the second program {second:?}"
     );
     assert!(bed.tables.are_of(&bed.card), "{name}: the tables differ");
+    let says = match bed.phase {
+        archive::ENDED_DONE => Says::Done,
+        archive::ENDED_UNKNOWN => Says::Unknown,
+        _ => Says::Open,
+    };
+    assert!(says == bed.master.says(), "{name}: the masters say something else");
 }

@@ -4,6 +4,7 @@
 pub const INTERROGATE: u8 = 0xE3;
 pub const CHANGE: u8 = 0xA3;
 pub const CHANGE_BITS: u8 = 0xC3;
+pub const RESPONSE: u8 = 0x23;
 pub const ACKNOWLEDGE: [u8; 2] = [0x7E, 0x83];
 /// The same with another unit's I.A.
 pub const FOREIGN_INTERROGATE: u8 = 0xE4;

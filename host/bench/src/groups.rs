@@ -3,10 +3,11 @@
 use reference::card::{Card, REGISTERS};
 use reference::image::{save, IMAGE};
 
-use crate::calls::{Bed, Entry, Request};
+use crate::archive::{BITS, BYTES};
+use crate::calls::{Ask, Bed, Entry, Request};
 use crate::frames::{
     change, datalink, interrogate, lecom_read, lecom_write, love, lucid, ACKNOWLEDGE, CHANGE, CHANGE_BITS,
-    FOREIGN_INTERROGATE, FOREIGN_RESPONSE,
+    FOREIGN_INTERROGATE, FOREIGN_RESPONSE, RESPONSE,
 };
 
 /// A call under a name.
@@ -48,6 +49,8 @@ pub struct Plan {
     pub dialects: Vec<Group>,
     /// The card's loop: a probe's code, the governor's reading, then a frame of each dialect.
     pub mix: Group,
+    /// Whole exchanges of the line master: change, acknowledge, interrogate, end.
+    pub master: Group,
     /// The entries without a dialect.
     pub others: Group,
     /// Refused just after fitness: the governor's channel is the cheapest test that comes next.
@@ -64,6 +67,7 @@ impl Plan {
         Self {
             dialects: dialects(),
             mix: mix(),
+            master: exchanges("line master", &[2, 9, 32], &[1, 16]),
             others: others(),
             fitness: Group::new("fitness", channel_4()),
             unlent: Group {
@@ -77,7 +81,7 @@ impl Plan {
 
     /// All groups; their order is the same in every run.
     pub fn groups(&self) -> Vec<&Group> {
-        let single = [&self.mix, &self.others, &self.fitness, &self.unlent];
+        let single = [&self.mix, &self.master, &self.others, &self.fitness, &self.unlent];
         self.dialects.iter().chain(single).chain(&self.sweeps).collect()
     }
 }
@@ -111,6 +115,7 @@ fn case(name: impl Into<String>, entry: Entry, bytes: Vec<u8>) -> Case {
             channel: 0,
             code: 0,
             bytes,
+            ask: Ask::default(),
         },
     }
 }
@@ -327,6 +332,11 @@ fn sweeps() -> Vec<Group> {
             lucid(0x42, 0x0F, 0x10, &vec![1; count])
         }),
         probes(),
+        exchanges(
+            "line master",
+            &(0..=32).collect::<Vec<u8>>(),
+            &(0..=16).collect::<Vec<u8>>(),
+        ),
     ]
 }
 
@@ -410,4 +420,44 @@ fn probes() -> Group {
         cases.push(read(Entry::Lucid, lucid(0x48, 0x0F, 0x41, &[])));
     }
     Group::new("probes", cases)
+}
+
+/// Exchanges of the master that name this many bytes, or this many bytes of bits, with a card that answers every frame.
+fn exchanges(name: &'static str, bytes: &[u8], bits: &[u8]) -> Group {
+    let mut cases = Vec::new();
+    for &count in bytes {
+        let sent: Vec<u8> = (0..count).map(|place| place.wrapping_mul(29)).collect();
+        let echo = datalink(RESPONSE, count, ADDRESS, &sent);
+        cases.extend(exchange(BYTES, &sent, &[], [echo.clone(), echo]));
+    }
+    for &count in bits {
+        let (masks, states) = (vec![0xF0; count.into()], vec![0x01; count.into()]);
+        let pairs = [0xF0, 0x01].repeat(count.into());
+        let echo = datalink(RESPONSE, 2 * count, ADDRESS, &pairs);
+        let read = datalink(RESPONSE, count, ADDRESS, &vec![0x51; count.into()]);
+        cases.extend(exchange(BITS, &masks, &states, [echo, read]));
+    }
+    Group::new(name, cases)
+}
+
+/// Where the master's changes go.
+const ADDRESS: u16 = 0x1101;
+
+/// The four steps of an exchange that gets this echo and this read-back.
+fn exchange(kind: u8, sent: &[u8], states: &[u8], [echo, read]: [Vec<u8>; 2]) -> Vec<Case> {
+    let answers = [Vec::new(), echo, Vec::new(), read];
+    let names = ["change", "acknowledge", "interrogate", "end"];
+    let step = |(name, answer): (&str, Vec<u8>)| {
+        let what = if kind == BYTES { "bytes" } else { "bytes of bits" };
+        let mut case = case(format!("{name}, {} {what}", sent.len()), Entry::Step, sent.to_vec());
+        case.request.ask = Ask {
+            begins: name == names[0],
+            kind,
+            address: ADDRESS.into(),
+            states: states.to_vec(),
+            answer,
+        };
+        case
+    };
+    names.into_iter().zip(answers).map(step).collect()
 }

@@ -1,5 +1,6 @@
 //! The tables, as Markdown.
 
+use std::cmp::Reverse;
 use std::collections::HashMap;
 
 use crate::callgrind::Cost;
@@ -50,29 +51,29 @@ fn named<'a>(counted: &'a [Counted], group: &Group) -> &'a Counted<'a> {
 /// Instructions of a call, group by group.
 pub fn dialects(plan: &Plan, counted: &[Counted]) {
     println!("## Instructions of a call\n");
-    println!("| Calls | Frames | Library | Second program | Ratio | Aim {RATIO_AIM} |");
+    println!("| Calls | Number of them | Library | Second program | Ratio | Aim: {RATIO_AIM} |");
     println!("|---|---|---|---|---|---|");
-    for group in plan.dialects.iter().chain([&plan.mix]) {
-        let count = group.cases.len() as u64;
+    for group in &plan.dialects {
         let total = named(counted, group).total();
         let met = if quotient(total) <= RATIO_AIM { "met" } else { "missed" };
-        println!(
-            "| {} | {count} | {} | {} | {:.3} | {met} |",
-            group.name,
-            total.archive / count,
-            total.second / count,
-            quotient(total)
-        );
+        print_mean(group.name, group.cases.len(), total, met);
+    }
+    for group in [&plan.mix, &plan.master] {
+        print_mean(group.name, group.cases.len(), named(counted, group).total(), "");
     }
     for (case, cost) in named(counted, &plan.others).cases() {
-        println!(
-            "| {} | | {} | {} | {:.3} | |",
-            case.name,
-            cost.archive,
-            cost.second,
-            quotient(cost)
-        );
+        print_mean(&case.name, 1, cost, "");
     }
+}
+
+/// A row with the mean of some calls.
+fn print_mean(name: &str, count: usize, total: Cost, met: &str) {
+    let mean = |instructions: u64| instructions as f64 / count as f64;
+    let (archive, second) = (mean(total.archive), mean(total.second));
+    println!(
+        "| {name} | {count} | {archive:.0} | {second:.0} | {:.3} | {met} |",
+        quotient(total)
+    );
 }
 
 /// Fitness alone.
@@ -158,7 +159,9 @@ fn slope(points: &[(f64, Cost)], part: fn(&Cost) -> u64) -> f64 {
     let mean_cost = points.iter().map(|point| part(&point.1) as f64).sum::<f64>() / count;
     let product = |point: &(f64, Cost)| (point.0 - mean_length) * (part(&point.1) as f64 - mean_cost);
     let square = |point: &(f64, Cost)| (point.0 - mean_length).powi(2);
-    points.iter().map(product).sum::<f64>() / points.iter().map(square).sum::<f64>()
+    let slope = points.iter().map(product).sum::<f64>() / points.iter().map(square).sum::<f64>();
+    // No minus before a zero.
+    (slope * 10.0).round() / 10.0 + 0.0
 }
 
 /// Time ratios.

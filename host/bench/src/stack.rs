@@ -3,8 +3,8 @@
 use std::arch::asm;
 use std::collections::HashMap;
 
-use crate::archive::Tables;
-use crate::calls::{Bed, Entry, Request};
+use crate::archive::NEW;
+use crate::calls::{Bed, Entry, Request, IA};
 use crate::groups::Plan;
 
 /// A return address, a pushed register.
@@ -13,30 +13,32 @@ const WORD: usize = 8;
 const AREA: usize = 8192;
 const ABOVE: usize = 16;
 const PAINT: u64 = 0xA5C3_3C5A_A5C3_3C5A;
+/// Arguments that the C convention passes in registers.
+const REGISTERS: usize = 6;
 
 /// Makes a call on a painted stack and gives how many bytes of it were touched from the return address down.
 fn touched(bed: &mut Bed, request: &Request) -> usize {
     let mut area = vec![PAINT; AREA];
-    let arguments = stack_arguments(bed, request);
+    let mut arguments = arguments(bed, request);
+    arguments.resize(arguments.len().max(REGISTERS), 0);
+    let (registers, stack) = arguments.split_at(REGISTERS);
     // The stack pointer is a multiple of 16 where a call is made.
     let address = area.as_mut_ptr() as usize;
-    let top = (AREA - ABOVE - arguments.len()) / 2 * 2 + address % 16 / WORD;
-    area[top..top + arguments.len()].copy_from_slice(&arguments);
-    let Tables { words, memory, pending } = &mut bed.tables;
-    // A call by the C convention on a stack of its own: every entry gets the tables in the six argument registers and
-    // the rest on the stack.
+    let top = (AREA - ABOVE - stack.len()) / 2 * 2 + address % 16 / WORD;
+    area[top..top + stack.len()].copy_from_slice(stack);
+    // A call by the C convention, on a stack of its own.
     unsafe {
         asm!(
             "mov r12, rsp",
             "mov rsp, r13",
             "call r14",
             "mov rsp, r12",
-            in("rdi") words.as_mut_ptr(),
-            in("rsi") words.len(),
-            in("rdx") memory.as_mut_ptr(),
-            in("rcx") memory.len(),
-            in("r8") pending.as_mut_ptr(),
-            in("r9") pending.len(),
+            in("rdi") registers[0],
+            in("rsi") registers[1],
+            in("rdx") registers[2],
+            in("rcx") registers[3],
+            in("r8") registers[4],
+            in("r9") registers[5],
             out("r12") _,
             in("r13") area.as_mut_ptr().add(top),
             in("r14") request.entry.address(),
@@ -52,21 +54,43 @@ fn touched(bed: &mut Bed, request: &Request) -> usize {
     bytes.len() - kept.count()
 }
 
-/// The arguments after the tables.
-fn stack_arguments(bed: &mut Bed, request: &Request) -> Vec<u64> {
-    let bytes = [request.bytes.as_ptr() as u64, request.bytes.len() as u64];
-    let answer = [
-        bed.answer.as_mut_ptr() as u64,
-        bed.answer.len() as u64,
-        &raw mut bed.len as u64,
-    ];
+/// A slice as C gets it.
+fn lent<T>(slice: &[T]) -> [u64; 2] {
+    [slice.as_ptr() as u64, slice.len() as u64]
+}
+
+/// A call's arguments in their order.
+fn arguments(bed: &mut Bed, request: &Request) -> Vec<u64> {
+    let tables = [
+        lent(&bed.tables.words),
+        lent(&bed.tables.memory),
+        lent(&bed.tables.pending),
+    ]
+    .concat();
+    let answer = [&lent(&bed.answer)[..], &[&raw mut bed.len as u64]].concat();
+    let bytes = lent(&request.bytes).to_vec();
+    let channel = u64::from(request.channel);
     match request.entry {
-        Entry::SetCode => vec![request.channel.into(), request.code.into()],
-        Entry::Restart => Vec::new(),
-        Entry::Governor => vec![request.channel.into(), &raw mut bed.degrees as u64],
-        Entry::WriteImage => answer.to_vec(),
-        Entry::ReadImage => bytes.to_vec(),
-        Entry::Datalink | Entry::Lecom | Entry::Love | Entry::Lucid => [&bytes[..], &answer].concat(),
+        Entry::SetCode => [tables, vec![channel, request.code.into()]].concat(),
+        Entry::Restart => tables,
+        Entry::Governor => [tables, vec![channel, &raw mut bed.degrees as u64]].concat(),
+        Entry::WriteImage => [tables, answer].concat(),
+        Entry::ReadImage => [tables, bytes].concat(),
+        Entry::Datalink | Entry::Lecom | Entry::Love | Entry::Lucid => [tables, bytes, answer].concat(),
+        Entry::Step => {
+            let ask = &request.ask;
+            if ask.begins {
+                bed.phase = NEW;
+            }
+            let asked = vec![
+                &raw mut bed.phase as u64,
+                ask.kind.into(),
+                IA.into(),
+                ask.address.into(),
+            ];
+            let rest = [lent(&ask.states), lent(&ask.answer)].concat();
+            [asked, bytes, rest, answer].concat()
+        }
     }
 }
 
