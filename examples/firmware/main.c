@@ -571,7 +571,130 @@ static void check_restart(struct card *card)
     end();
 }
 
-/* ---- Every entry: unfit tables and short buffers ---- */
+/* ---- The line master: 01, "Datalink", second half. Its frames go to the card, the card's answers to its next step. ---- */
+
+/* What is asked of the unit at an I.A. */
+struct order {
+    uint8_t kind;
+    uint32_t ia;
+    uint32_t address;
+    const uint8_t *sent;
+    size_t sent_count;
+    const uint8_t *states;
+    size_t states_count;
+};
+
+/* A step and what 01 says of it: the answer that it gets, its number, its phase and its frame. */
+struct turn {
+    const char *source;
+    const uint8_t *answer;
+    size_t answer_count;
+    uint8_t number;
+    uint8_t phase;
+    const uint8_t *frame;
+    size_t frame_count;
+};
+
+static uint8_t step(const struct order *o, const struct turn *turn, uint8_t *phase, size_t room, struct answer *frame)
+{
+    return nk_step(phase, o->kind, o->ia, o->address, o->sent, o->sent_count, o->states, o->states_count, turn->answer,
+                   turn->answer_count, frame->bytes, room, &frame->len);
+}
+
+/* An exchange, step by step. Each frame reaches the card; its answer is what the next step gets, or is lost there. */
+static void exchange(struct card *card, const struct order *order, const struct turn *turns, size_t count)
+{
+    uint8_t phase = NK_NEW;
+    for (size_t i = 0; i < count; i++) {
+        struct answer frame = painted(), answer = painted();
+        check_number(step(order, &turns[i], &phase, ROOM, &frame), turns[i].number, turns[i].source);
+        check(phase == turns[i].phase, turns[i].source, "phase");
+        check_answer(&frame, turns[i].frame, turns[i].frame_count, turns[i].source);
+        struct lent tables = lend(card);
+        if (frame.len != 0)
+            serve(&tables, DATALINK, frame.bytes, frame.len, ROOM, &answer);
+        if (i + 1 < count && turns[i + 1].answer_count != 0)
+            check_answer(&answer, turns[i + 1].answer, turns[i + 1].answer_count, "the card's answer");
+    }
+}
+
+static const struct order bytes_order = {NK_BYTES, 3, 0x1010, BYTES(0x08, 0x0C), NULL, 0};
+static const struct order bits_order = {NK_BITS, 3, 0x1020, BYTES(0xF0), BYTES(0x01)};
+
+static const struct turn bytes_done[] = {
+    {"change, 003 example B at 1010h", NULL, 0, NK_ANSWERED, NK_CHANGING,
+     BYTES(0x7E, 0xA3, 0x02, 0x10, 0x10, 0x08, 0x0C, 0xD9)},
+    {"acknowledge on an exact echo", BYTES(0x7E, 0x23, 0x02, 0x10, 0x10, 0x08, 0x0C, 0x59), NK_ANSWERED,
+     NK_ACKNOWLEDGING, BYTES(0x7E, 0x83)},
+    {"interrogate", NULL, 0, NK_ANSWERED, NK_READING, BYTES(0x7E, 0xE3, 0x02, 0x10, 0x10, 0x05)},
+    {"done", BYTES(0x7E, 0x23, 0x02, 0x10, 0x10, 0x08, 0x0C, 0x59), NK_DONE, NK_ENDED_DONE, SILENT},
+    {"a step after the end", NULL, 0, NK_NOTHING_PENDING, NK_ENDED_DONE, SILENT},
+};
+
+static const struct turn bits_done[] = {
+    {"01 P4: change bits", NULL, 0, NK_ANSWERED, NK_CHANGING, BYTES(0x7E, 0xC3, 0x02, 0x20, 0x10, 0xF0, 0x01, 0xE6)},
+    {"01 P4: acknowledge", BYTES(0x7E, 0x23, 0x02, 0x20, 0x10, 0xF0, 0x01, 0x46), NK_ANSWERED, NK_ACKNOWLEDGING,
+     BYTES(0x7E, 0x83)},
+    {"01 P4: interrogate", NULL, 0, NK_ANSWERED, NK_READING, BYTES(0x7E, 0xE3, 0x01, 0x20, 0x10, 0x14)},
+    {"01 P4: 51h is done", BYTES(0x7E, 0x23, 0x01, 0x20, 0x10, 0x51, 0xA5), NK_DONE, NK_ENDED_DONE, SILENT},
+};
+
+static const struct turn echo_lost[] = {
+    {"change", NULL, 0, NK_ANSWERED, NK_CHANGING, BYTES(0x7E, 0xA3, 0x02, 0x10, 0x10, 0x08, 0x0C, 0xD9)},
+    {"no echo", NULL, 0, NK_DONE, NK_ENDED_UNKNOWN, SILENT},
+    {"a step after the end", NULL, 0, NK_NOTHING_PENDING, NK_ENDED_UNKNOWN, SILENT},
+};
+
+static const struct turn read_back_lost[] = {
+    {"change bits", NULL, 0, NK_ANSWERED, NK_CHANGING, BYTES(0x7E, 0xC3, 0x02, 0x20, 0x10, 0xF0, 0x01, 0xE6)},
+    {"acknowledge", BYTES(0x7E, 0x23, 0x02, 0x20, 0x10, 0xF0, 0x01, 0x46), NK_ANSWERED, NK_ACKNOWLEDGING,
+     BYTES(0x7E, 0x83)},
+    {"interrogate", NULL, 0, NK_ANSWERED, NK_READING, BYTES(0x7E, 0xE3, 0x01, 0x20, 0x10, 0x14)},
+    {"no read-back", NULL, 0, NK_DONE, NK_ENDED_UNKNOWN, SILENT},
+};
+
+/* A step that is refused moves no phase and touches no buffer. */
+static void check_step_refused(const struct order *order, size_t room, uint8_t number, const char *source)
+{
+    const struct turn turn = {source, NULL, 0, number, NK_NEW, SILENT};
+    struct answer frame = painted();
+    uint8_t phase = NK_NEW;
+    check_number(step(order, &turn, &phase, room, &frame), number, source);
+    check(phase == NK_NEW, source, "phase");
+    check_answer(&frame, NULL, 0, source);
+}
+
+static void check_master(void)
+{
+    static const uint8_t many[33];
+    const struct order ia_32 = {NK_BYTES, 32, 0x1010, many, 1, NULL, 0};
+    const struct order bytes_33 = {NK_BYTES, 3, 0x1010, many, 33, NULL, 0};
+    const struct order bits_17 = {NK_BITS, 3, 0x1010, many, 17, many, 17};
+    const struct order unpaired = {NK_BITS, 3, 0x1010, many, 2, many, 1};
+    const struct order address_65536 = {NK_BYTES, 3, 65536, NULL, 0, NULL, 0};
+    const struct order past_the_end = {NK_BYTES, 3, 65535, many, 2, NULL, 0};
+    struct card card;
+
+    begin("line master and card (01)");
+    card_default(&card);
+    card.memory[0x20] = 0x5A;
+    exchange(&card, &bytes_order, bytes_done, COUNT(bytes_done));
+    check(card.memory[0x10] == 0x08 && card.memory[0x11] == 0x0C, "done", "memory");
+    exchange(&card, &bits_order, bits_done, COUNT(bits_done));
+    check(card.memory[0x20] == 0x51, "done", "memory");
+    exchange(&card, &bytes_order, echo_lost, COUNT(echo_lost));
+    exchange(&card, &bits_order, read_back_lost, COUNT(read_back_lost));
+    check_step_refused(&ia_32, ROOM, NK_VALUE_OUTSIDE, "I.A. 32");
+    check_step_refused(&bytes_33, ROOM, NK_VALUE_OUTSIDE, "33 bytes");
+    check_step_refused(&bits_17, ROOM, NK_VALUE_OUTSIDE, "17 bytes of bits");
+    check_step_refused(&unpaired, ROOM, NK_VALUE_OUTSIDE, "two masks, one state");
+    check_step_refused(&address_65536, ROOM, NK_VALUE_OUTSIDE, "address 65536");
+    check_step_refused(&past_the_end, ROOM, NK_VALUE_OUTSIDE, "address plus bytes 65537");
+    check_step_refused(&bytes_order, NK_ROOM - 1, NK_BUFFER_SHORT, "a frame buffer of 37");
+    end();
+}
+
+/* ---- Every entry of the card: unfit tables and short buffers ---- */
 
 /* Calls that a fit card with a pending change carries out; all but two of them would change a table. */
 static const uint8_t acknowledge_frame[] = {0x7E, 0x83};
@@ -779,6 +902,7 @@ int main(void)
     check_dialects(&card);
     check_image(&card);
     check_restart(&card);
+    check_master();
     check_carried_out();
     check_lengths();
     check_unfit_entries();

@@ -1,0 +1,11 @@
+//! Links the firmware library, which `rt staticlib firmware` writes.
+
+use std::path::Path;
+
+fn main() {
+    let root = Path::new(env!("CARGO_MANIFEST_DIR")).join("../..");
+    let folder = root.join("target/staticlib");
+    println!("cargo:rustc-link-search=native={}", folder.display());
+    println!("cargo:rustc-link-lib=static=firmware");
+    println!("cargo:rerun-if-changed={}", folder.join("libfirmware.a").display());
+}

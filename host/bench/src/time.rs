@@ -1,0 +1,58 @@
+//! Time as a ratio: both sides take turns in one process.
+
+use std::hint::black_box;
+use std::time::{Duration, Instant};
+
+use crate::calls::{thunk, Bed, Side, Thunk};
+use crate::groups::{Case, Group};
+
+/// Turns of both sides, and how often a turn makes a group's calls.
+const TURNS: usize = 400;
+const ROUNDS: usize = 20;
+
+/// Quartiles of the library's time divided by the second program's, turn by turn.
+pub struct Ratio {
+    pub lower: f64,
+    pub median: f64,
+    pub upper: f64,
+}
+
+/// Measures a group.
+pub fn ratio(group: &Group) -> Ratio {
+    let thunks = |side| -> Vec<Thunk> { group.cases.iter().map(|case| thunk(side, case.request.entry)).collect() };
+    let (archive, second) = (thunks(Side::Archive), thunks(Side::Second));
+    let mut bed = group.bed();
+    let mut ratios: Vec<f64> = (0..TURNS)
+        .map(|turn| {
+            // Who begins changes from turn to turn.
+            let (one, other) = if turn % 2 == 0 {
+                (&archive, &second)
+            } else {
+                (&second, &archive)
+            };
+            let (one, other) = (
+                round_time(one, &group.cases, &mut bed),
+                round_time(other, &group.cases, &mut bed),
+            );
+            let (archive, second) = if turn % 2 == 0 { (one, other) } else { (other, one) };
+            archive.as_secs_f64() / second.as_secs_f64()
+        })
+        .collect();
+    ratios.sort_by(f64::total_cmp);
+    Ratio {
+        lower: ratios[TURNS / 4],
+        median: ratios[TURNS / 2],
+        upper: ratios[TURNS * 3 / 4],
+    }
+}
+
+/// The time of one turn.
+fn round_time(thunks: &[Thunk], cases: &[Case], bed: &mut Bed) -> Duration {
+    let start = Instant::now();
+    for _ in 0..ROUNDS {
+        for (thunk, case) in thunks.iter().zip(cases) {
+            black_box(thunk)(bed, &case.request);
+        }
+    }
+    start.elapsed()
+}
