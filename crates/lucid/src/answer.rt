@@ -27,6 +27,8 @@ ghost use Rattle.lucid.specs.Answer.{group, hundredthsOf, temperatureIn,
 // The most bytes of data that an answer has: four channels in type 41h.
 const VALUES: usize = 16;
 
+const NO_VALUES: [u8; VALUES] = [0; VALUES];
+
 // The defaults of 1110h and 1120h. Document 01, "What the card holds".
 const CYCLE_DEFAULT: u32 = 1_000_000;
 
@@ -82,7 +84,7 @@ fn tell(out: &mut [u8], number: u8, status: u8) -> Outcome
     requires { ⌜ roomLeast ≤ length (now out) ⌝ }
     ensures { λ r. ⌜ (r .number ≡ number) × Wrote (answerOf status []) (now (out .entry)) (r .len) (now (out .exit)) ⌝ }
 {
-    let values = [0u8; VALUES];
+    let values = NO_VALUES;
     respond(out, number, status, &values, 0)
 }
 
@@ -118,7 +120,7 @@ fn read_parameter(words: &[u32], place: u8, out: &mut [u8]) -> Outcome
     requires { ⌜ (length (now words) ≡ wordCount) × ((place < parameterCount) × (roomLeast ≤ length (now out))) ⌝ }
     ensures { λ r. ⌜ (r .number ≡ answered) × Wrote (answerOf ok (little parameterSize (getD (now (words .entry)) (parametersAt + place) 0))) (now (out .entry)) (r .len) (now (out .exit)) ⌝ }
 {
-    let mut values = [0u8; VALUES];
+    let mut values = NO_VALUES;
     let value = words[PARAMETERS + place as usize];
     let len = put_little(value, Lucid::PARAMETER_SIZE as usize, &mut values, 0);
     respond(out, ANSWERED, Lucid::OK, &values, len)
@@ -168,7 +170,7 @@ fn read_channels(words: &[u32], memory: &[u8], kind: u8, mask: u8, out: &mut [u8
     ensures { λ r. ⌜ GaveWords (read (now (words .entry)) (group (valueOf (now (words .entry)) (now (memory .entry)) kind) (channelsOf mask)))
         (now (out .entry)) (r .number) (r .len) (now (words .entry)) (now (out .exit)) ⌝ }
 {
-    let mut values = [0u8; VALUES];
+    let mut values = NO_VALUES;
     let mut len = 0;
     let mut left = mask;
     let mut channel = 0;
