@@ -39,6 +39,8 @@ use Rattle.lucid.specs.Frame.{
   p2In,
   lenIn,
   Sized,
+  Placed,
+  Supplied,
 }
 use Rattle.lucid.specs.declared.frame.Order.{Order}
 use Rattle.lucid.specs.declared.frame.Order.the-variants.{Refused, GetIo, SetIo, GetParam, SetParam, Reset}
@@ -46,12 +48,7 @@ use Rattle.lucid.proofs.Bools.{or-right}
 use Rattle.lucid.proofs.Lengths.{single-channel}
 
 abbrev pub Safe : List ℕ → Order → Type 0
-Safe f (Refused number status) = Unit {0}
-Safe f (GetIo kind mask) = Unit {0}
-Safe f (SetIo mask) = length f ≡ fieldAt + demandSize * length (channelsOf mask)
-Safe f (GetParam place) = place < parameterCount
-Safe f (SetParam place saved value) = place < parameterCount
-Safe f (Reset channel saved) = channel < channels
+Safe f order = Placed order × Supplied f order
 
 place-within : (channel address : ℕ) → channel < channels → placeOf channel address < parameterCount
 unfolding placeOf
@@ -60,7 +57,7 @@ place-within channel address h = by-choice (λ (n : ℕ). n < parameterCount) _ 
 module _ (f : List ℕ) where
   -- a test, of which the other way is a refusal
   or-refused : (t : Bool) (order : Order) (number status : ℕ) → (t ≡ true → Safe f order) → Safe f (choose t order (Refused number status))
-  or-refused t order number status p = by-choice (Safe f) t order (Refused number status) p (λ _. tt)
+  or-refused t order number status p = by-choice (Safe f) t order (Refused number status) p (λ _. (tt, tt))
 
   module _ (opc p1 p2 : ℕ) (sized : Sized opc p1 p2 f) where
     -- SetIo and SetIoGroup have two bytes for each channel
@@ -75,12 +72,12 @@ module _ (f : List ℕ) where
     safe-order : typeWritable opc p2 ≡ true → Safe f (ordered opc p1 p2 f)
     unfolding ordered orderedParameter
     safe-order w =
-        by-choice (Safe f) (isGet opc) _ _ (λ _. tt)
-        (λ g. by-choice (Safe f) (isSet opc) _ _ (λ s. set-length w g s)
+        by-choice (Safe f) (isGet opc) _ _ (λ _. (tt, tt))
+        (λ g. by-choice (Safe f) (isSet opc) _ _ (λ s. (tt, set-length w g s))
         (λ s.
         let h = single-channel opc p1 p2 f sized g s in
-        by-choice (Safe f) (isReset opc p2) _ _ (λ _. h)
-        (λ _. by-choice (Safe f) _ _ _ (λ _. place-within p1 (addressIn f) h) (λ _. place-within p1 (addressIn f) h))))
+        by-choice (Safe f) (isReset opc p2) _ _ (λ _. (h, tt))
+        (λ _. by-choice (Safe f) _ _ _ (λ _. (place-within p1 (addressIn f) h, tt)) (λ _. (place-within p1 (addressIn f) h, tt)))))
 
     safe-parameter : typeWritable opc p2 ≡ true → Safe f (parameterAsked opc p1 p2 f)
     unfolding parameterAsked
@@ -102,7 +99,3 @@ module _ (f : List ℕ) where
       (λ l. or-refused (opcKnown (opcIn f)) _ _ _
       (λ k. or-refused (channelRight (opcIn f) (p1In f)) _ _ _
       (λ h. or-refused _ _ _ _ (λ _. safe-option (opcIn f) (p1In f) (p2In f) k h (eqb-true (length f) (fieldAt + lenIn f) l)))))
-
-  -- the same of what it was found to ask
-  pub known : (order : Order) → asked f ≡ order → Safe f order
-  known order e = subst (Safe f) e safe

@@ -5,4 +5,5 @@ pub mod Judged
 pub mod Bytes
 pub mod Groups
 pub mod Replies
+pub mod Orders
 pub mod Laws
