@@ -11,9 +11,10 @@ use lib.Dec.{eqb}
 use lib.ListN.{length, getD}
 use Rattle.wire.specs.Choose.{choose}
 use Rattle.wire.proofs.Cases.{yes, no, by-choice}
+use Rattle.card.specs.Numbers.{probeFault}
 use Rattle.card.specs.Layout.{Card, channels, demandsAt}
 use Rattle.card.specs.Probe.{faultCode, readingOf}
-use Rattle.card.specs.Reply.{WordsReply, onWords, shell, roomLeast, Keeps}
+use Rattle.card.specs.Reply.{WordsReply, onWords, sent, shell, roomLeast, Keeps}
 use Rattle.card.specs.declared.probe.Reading.{Reading}
 use Rattle.card.specs.declared.probe.Reading.the-variants.{Fault}
 use Rattle.card.proofs.Facts.{and-true}
@@ -78,7 +79,7 @@ order-fault ws memory f (Reset which saved) channel h r code = cc
 
 -- the probe of a channel at fault, asked for alone or in a group: unless 12 or 11 comes first, the fault reply (9, D0h) and nothing else
 pub fault : (card : Card) (room : ℕ) (f : List ℕ) (channel : ℕ) → channel < channels → asksProbe f channel ≡ true → getD (card .memory) channel 0 ≡ faultCode
-    → lucidReply card room f ≡ shell roomLeast card room (onWords card (leaving (card .words) faulted))
+    → lucidReply card room f ≡ shell roomLeast card room (sent probeFault (faulted .bytes) card)
 unfolding lucidReply lucidWords asksProbe
 fault card room f channel h a code =
     let b = and-true (fits (length f)) (readsProbe (asked f) channel) a in

@@ -7,3 +7,4 @@ pub mod Groups
 pub mod Replies
 pub mod Orders
 pub mod Laws
+pub mod Fits

@@ -27,7 +27,7 @@ answer-requires c κs = let s = c .before .before .before .before .before .befor
 change-requires : tie.Need-change-requires
 change-requires c κs = let s = c .before .before .before .before .before .before .before .before .before .before .before .before .before in
     let known = subst (Safe (s .args .f .now)) (sym (c .before .before .before .before .before .before .order-of .ensures)) (safe (s .args .f .now)) in
-    (s .pre .0, (known .0, known .1))
+    (s .pre .0, (known .0, known .1 .0))
 
 same-length : tie.Need-same-length
 same-length c = search needs
