@@ -29,12 +29,9 @@ use Rattle.love.specs.Answer.{obeyed as loveObeyed, addressOf, loveReply}
 use Rattle.love.specs.declared.frame.Order.{Order as LoveOrder}
 use Rattle.love.specs.declared.frame.Order.the-variants.{Silent, Refused as LoveRefused, Probe, Read as LoveRead, Write as LoveWrite}
 use Rattle.love.proofs.Laws.{fault as love-fault}
-use Rattle.lucid.specs.Form.{demand, fits, channelsOf, errExecution}
-use Rattle.lucid.specs.Frame.{asked as lucidAsked}
-use Rattle.lucid.specs.Answer.{Values, Held, Failed, joined, group, readingIn, valueOf, read, refused, obeyed as lucidObeyed, lucidWords, lucidReply}
-use Rattle.lucid.specs.declared.frame.Order.{Order as LucidOrder}
-use Rattle.lucid.specs.declared.frame.Order.the-variants.{Refused as LucidRefused, GetIo, SetIo, GetParam, SetParam, Reset}
-use Rattle.faults.specs.NoTemperature.{SameAnswer, NoTemperature}
+use Rattle.lucid.specs.Answer.{lucidWords, lucidReply, asksProbe}
+use Rattle.lucid.proofs.Laws.{fault as lucid-fault, asked-alone}
+use Rattle.faults.specs.NoTemperature.{SameAnswer, lucidFault, NoTemperature}
 
 -- another code does not change which card is fit, so an answer over the words alone passes the shell in the same way
 module _ (card : Card) (channel code room : ℕ) where
@@ -88,49 +85,11 @@ module _ (channel code : ℕ) (words memory : List ℕ) where
   love-either (LoveRead k) = inr refl
   love-either (LoveWrite k word) = inr refl
 
-  joined-failed : (v : Values) → joined v Failed ≡ Failed
-  unfolding joined
-  joined-failed (Held a) = refl
-  joined-failed Failed = refl
-
-  -- the value of one channel: failed, or the same with any code
-  lucid-value : getD memory channel 0 ≡ faultCode → (kind k : ℕ) → (valueOf words memory kind k ≡ Failed) ⊎ (valueOf words memory kind k ≡ valueOf words (set memory channel code) kind k)
-  unfolding valueOf choose readingIn readingOf
-  lucid-value failed kind k = by (eqb kind demand) refl (eqb k channel) refl
-    where
-      by : (t : Bool) → eqb kind demand ≡ t → (u : Bool) → eqb k channel ≡ u
-          → (valueOf words memory kind k ≡ Failed) ⊎ (valueOf words memory kind k ≡ valueOf words (set memory channel code) kind k)
-      by true e u d = inr (rw e)
-      by false e true d = inl (rw (e, eqb-true k channel d, failed))
-      by false e false d = inr (rw (e, getD-set-other memory channel k code 0 (eqb-false k channel d)))
-
-  lucid-group : getD memory channel 0 ≡ faultCode → (kind : ℕ) (ks : List ℕ)
-      → (group (valueOf words memory kind) ks ≡ Failed) ⊎ (group (valueOf words memory kind) ks ≡ group (valueOf words (set memory channel code) kind) ks)
-  unfolding group joined
-  lucid-group failed kind [] = inr refl
-  lucid-group failed kind (k ∷ ks) =
-      ⊎-elim (λ e. inl (rw e))
-      (λ e.
-      ⊎-elim (λ d. inl (ap (joined (valueOf words memory kind k)) d ∙ joined-failed (valueOf words memory kind k))) (λ d. inr (ap₂ joined e d)) (lucid-group failed kind ks))
-      (lucid-value failed kind k)
-
-  lucid-either : getD memory channel 0 ≡ faultCode → (f : List ℕ) (o : LucidOrder) → (lucidObeyed words memory f o ≡ refused probeFault errExecution words) ⊎ (lucidObeyed words memory f o ≡ lucidObeyed words (set memory channel code) f o)
-  unfolding lucidObeyed read
-  lucid-either failed f (LucidRefused number status) = inr refl
-  lucid-either failed f (GetIo kind mask) =
-      ⊎-elim (λ e. inl (ap (read words) e)) (λ e. inr (ap (read words) e)) (lucid-group failed kind (channelsOf mask))
-  lucid-either failed f (SetIo mask) = inr refl
-  lucid-either failed f (GetParam place) = inr refl
-  lucid-either failed f (SetParam place saved value) = inr refl
-  lucid-either failed f (Reset which saved) = inr refl
-
-  lucid-words : getD memory channel 0 ≡ faultCode → (f : List ℕ) → (lucidWords words memory f ≡ refused probeFault errExecution words) ⊎ (lucidWords words memory f ≡ lucidWords words (set memory channel code) f)
-  unfolding lucidWords choose
-  lucid-words failed f = by (fits (length f)) refl
-    where
-      by : (t : Bool) → fits (length f) ≡ t → (lucidWords words memory f ≡ refused probeFault errExecution words) ⊎ (lucidWords words memory f ≡ lucidWords words (set memory channel code) f)
-      by true e = ⊎-elim (λ d. inl (rw e d)) (λ d. inr (rw e d)) (lucid-either failed f (lucidAsked f))
-      by false e = inr (rw e)
+  -- a frame that does not ask for this channel's probe
+  lucid-other : (f : List ℕ) → asksProbe f channel ≡ false → lucidWords words memory f ≡ lucidWords words (set memory channel code) f
+  lucid-other f other =
+      asked-alone words memory (set memory channel code) f
+      (λ k h asks. sym (getD-set-other memory channel k code 0 (λ e. let z : _≡_ {A = ℕ} 0 1 = cc (ap (asksProbe f) e) in omega arith)))
 
 no-degrees : (card : Card) (channel : ℕ) → getD (card .memory) channel 0 ≡ faultCode → valuesOf (governorOf card channel) ≡ []
 unfolding governorOf toldOf
@@ -152,7 +111,9 @@ no-temperature card channel code room f inside failed =
       love =
           ⊎-elim (λ o. inl (love-fault card room f (o .0) (ap (λ (k : ℕ). getD (card .memory) k 0) (sym (o .1)) ∙ failed))) (λ e. inr (shell-same card channel code room _ _ e))
           (love-either channel code (card .words) (card .memory) (loveAsked (addressOf (card .words)) f));
-      lucid =
-          ⊎-elim (λ e. inl (ap (λ (r : WordsReply). shell roomLeast card room (onWords card r)) e)) (λ e. inr (shell-same card channel code room _ _ e))
-          (lucid-words channel code (card .words) (card .memory) failed f);
+      lucid = by (asksProbe f channel) refl;
     }
+  where
+    by : (t : Bool) → asksProbe f channel ≡ t → (lucidReply card room f ≡ lucidFault card room) ⊎ SameAnswer (lucidReply card room f) (lucidReply (withCode card channel code) room f)
+    by true asks = inl (lucid-fault card room f channel inside asks failed)
+    by false other = inr (shell-same card channel code room _ _ (lucid-other channel code (card .words) (card .memory) f other))

@@ -12,8 +12,7 @@ use Rattle.card.specs.Governor.{governorOf, valuesOf}
 use Rattle.card.specs.Reply.{Reply, onWords, sent, shell, roomLeast}
 use Rattle.lecom.specs.Answer.{refusedBy, leaving, lecomReply}
 use Rattle.love.specs.Answer.{faultReply, addressOf, loveReply}
-use Rattle.lucid.specs.Form.{errExecution}
-use Rattle.lucid.specs.Answer.{refused, lucidReply}
+use Rattle.lucid.specs.Answer.{faulted, lucidReply}
 
 -- the same number and the same wire bytes
 pub record SameAnswer (a b : Reply) : Type 0 where
@@ -28,7 +27,7 @@ abbrev pub loveFault : Card → ℕ → Reply
 loveFault card room = shell roomLeast card room (sent answered (faultReply (addressOf (card .words))) card)
 
 abbrev pub lucidFault : Card → ℕ → Reply
-lucidFault card room = shell roomLeast card room (onWords card (refused probeFault errExecution (card .words)))
+lucidFault card room = shell roomLeast card room (sent probeFault (faulted .bytes) card)
 
 -- no entry answers a temperature of the channel, in a buffer of this room and for this frame; code is any other code
 pub record NoTemperature (card : Card) (channel code room : ℕ) (f : List ℕ) : Type 0 where

@@ -7,7 +7,6 @@ use lib.ListN.{length, take, set}
 use lib.Seq.{take-suc-set}
 use Rattle.wire.specs.Buffer.{put, overlay}
 use Rattle.wire.proofs.Buffers.{overlay-sets, overlay-put}
-use Rattle.card.specs.Reply.{Wrote}
 use Rattle.lucid.specs.Form.{little}
 use Rattle.lucid.specs.Answer.{Grew}
 
@@ -32,7 +31,3 @@ little-next values n i size left h k =
 -- bytes known under another name
 pub grew-as : {values values′ : List ℕ} {n len : ℕ} (b d : List ℕ) → b ≡ d → Grew b values n len values′ → Grew d values n len values′
 grew-as {values} {values′} {n} {len} b d e = subst (λ (x : List ℕ). Grew x values n len values′) e
-
--- a buffer known under another name
-pub wrote-on : {b out′ : List ℕ} {len : ℕ} (o p : List ℕ) → o ≡ p → Wrote b o len out′ → Wrote b p len out′
-wrote-on {b} {out′} {len} o p e = subst (λ (x : List ℕ). Wrote b x len out′) e

@@ -3,7 +3,7 @@ use mathlib.Core.Path.{_≡_, refl, sym, ap, _∙_, subst}
 use mathlib.Core.Bool.{Bool, true, false, not}
 use mathlib.Core.List.{List}
 use Prim.{Unit, tt}
-use Prim.Native.Nat.{ℕ, _+_, _*_, _≤_, _<_}
+use Prim.Native.Nat.{ℕ, _+_, _*_, _%_, _≤_, _<_}
 use native.Mathlib.Omega.{arith}
 use borrow.Author.Tests.{eqb-true, eq-eqb, not-true}
 use lib.Dec.{eqb}
@@ -11,7 +11,8 @@ use lib.ListN.{length}
 use Rattle.wire.specs.Choose.{choose}
 use Rattle.wire.proofs.Cases.{by-choice, yes, no}
 use Rattle.card.specs.Layout.{channels, parameterCount}
-use Rattle.lucid.specs.Form.{fieldAt, channelsOf, demand, demandSize, sizeOf}
+use Rattle.card.specs.Tables.{inSpan, cycleLeast, cycleMost, floorMost}
+use Rattle.lucid.specs.Form.{fieldAt, getParam, cycleAddress, channelsOf, demand, demandSize, sizeOf}
 use Rattle.lucid.specs.Frame.{
   isGet,
   isSet,
@@ -26,6 +27,8 @@ use Rattle.lucid.specs.Frame.{
   maskOf,
   lenFor,
   addressIn,
+  valueIn,
+  inRange,
   addressKnown,
   valueRight,
   placeOf,
@@ -39,28 +42,51 @@ use Rattle.lucid.specs.Frame.{
   p2In,
   lenIn,
   Sized,
+  Placed,
+  Supplied,
 }
 use Rattle.lucid.specs.declared.frame.Order.{Order}
 use Rattle.lucid.specs.declared.frame.Order.the-variants.{Refused, GetIo, SetIo, GetParam, SetParam, Reset}
 use Rattle.lucid.proofs.Bools.{or-right}
-use Rattle.lucid.proofs.Lengths.{single-channel}
+use Rattle.lucid.proofs.Lengths.{single-channel, has-value}
+
+-- a value is in the range of the parameter at a place: 1110h at the even ones, 1120h at the odd
+unfoldable pub parameterFits : ℕ → ℕ → Bool
+parameterFits place value = choose (eqb (place % 2) 0) (inSpan cycleLeast cycleMost value) (inSpan 0 floorMost value)
+
+abbrev pub Ranged : Order → Type 0
+Ranged (Refused number status) = Unit {0}
+Ranged (GetIo kind mask) = Unit {0}
+Ranged (SetIo mask) = Unit {0}
+Ranged (GetParam place) = Unit {0}
+Ranged (SetParam place saved value) = parameterFits place value ≡ true
+Ranged (Reset channel saved) = Unit {0}
 
 abbrev pub Safe : List ℕ → Order → Type 0
-Safe f (Refused number status) = Unit {0}
-Safe f (GetIo kind mask) = Unit {0}
-Safe f (SetIo mask) = length f ≡ fieldAt + demandSize * length (channelsOf mask)
-Safe f (GetParam place) = place < parameterCount
-Safe f (SetParam place saved value) = place < parameterCount
-Safe f (Reset channel saved) = channel < channels
+Safe f order = Placed order × (Supplied f order × Ranged order)
 
 place-within : (channel address : ℕ) → channel < channels → placeOf channel address < parameterCount
 unfolding placeOf
 place-within channel address h = by-choice (λ (n : ℕ). n < parameterCount) _ _ _ (λ _. omega arith) (λ _. omega arith)
 
+place-fits : (channel address value : ℕ) → inRange address value ≡ true → parameterFits (placeOf channel address) value ≡ true
+unfolding inRange placeOf parameterFits choose
+place-fits channel address value = by (eqb address cycleAddress)
+  where
+    even : 2 * channel % 2 ≡ 0
+    even = omega arith
+
+    odd : (2 * channel + 1) % 2 ≡ 1
+    odd = omega arith
+
+    by : (t : Bool) → choose t (inSpan cycleLeast cycleMost value) (inSpan 0 floorMost value) ≡ true → parameterFits (choose t (2 * channel) (2 * channel + 1)) value ≡ true
+    by true e = rw even e
+    by false e = rw odd e
+
 module _ (f : List ℕ) where
   -- a test, of which the other way is a refusal
   or-refused : (t : Bool) (order : Order) (number status : ℕ) → (t ≡ true → Safe f order) → Safe f (choose t order (Refused number status))
-  or-refused t order number status p = by-choice (Safe f) t order (Refused number status) p (λ _. tt)
+  or-refused t order number status p = by-choice (Safe f) t order (Refused number status) p (λ _. (tt, (tt, tt)))
 
   module _ (opc p1 p2 : ℕ) (sized : Sized opc p1 p2 f) where
     -- SetIo and SetIoGroup have two bytes for each channel
@@ -72,19 +98,24 @@ module _ (f : List ℕ) where
         let len = no (isGet opc) _ _ _ g (yes (isSet opc) (sizeOf p2 * length (channelsOf (maskOf opc p1))) _ _ s refl) in
         sized .measured ∙ ap (λ (n : ℕ). fieldAt + n) (sym len ∙ ap (λ (n : ℕ). n * length (channelsOf (maskOf opc p1))) (sym size))
 
-    safe-order : typeWritable opc p2 ≡ true → Safe f (ordered opc p1 p2 f)
+    -- the value of a SetParam that passed the test of its value
+    value-fits : valueRight opc p2 f ≡ true → isGet opc ≡ false → isSet opc ≡ false → isReset opc p2 ≡ false → eqb opc getParam ≡ false → parameterFits (placeOf p1 (addressIn f)) (valueIn f) ≡ true
+    unfolding valueRight
+    value-fits v g s r n = place-fits p1 (addressIn f) (valueIn f) (yes _ _ _ _ (has-value opc p1 p2 f sized g s r n) refl ∙ v)
+
+    safe-order : typeWritable opc p2 ≡ true → valueRight opc p2 f ≡ true → Safe f (ordered opc p1 p2 f)
     unfolding ordered orderedParameter
-    safe-order w =
-        by-choice (Safe f) (isGet opc) _ _ (λ _. tt)
-        (λ g. by-choice (Safe f) (isSet opc) _ _ (λ s. set-length w g s)
+    safe-order w v =
+        by-choice (Safe f) (isGet opc) _ _ (λ _. (tt, (tt, tt)))
+        (λ g. by-choice (Safe f) (isSet opc) _ _ (λ s. (tt, (set-length w g s, tt)))
         (λ s.
         let h = single-channel opc p1 p2 f sized g s in
-        by-choice (Safe f) (isReset opc p2) _ _ (λ _. h)
-        (λ _. by-choice (Safe f) _ _ _ (λ _. place-within p1 (addressIn f) h) (λ _. place-within p1 (addressIn f) h))))
+        by-choice (Safe f) (isReset opc p2) _ _ (λ _. (h, (tt, tt)))
+        (λ r. by-choice (Safe f) (eqb opc getParam) _ _ (λ _. (place-within p1 (addressIn f) h, (tt, tt))) (λ n. (place-within p1 (addressIn f) h, (tt, value-fits v g s r n))))))
 
     safe-parameter : typeWritable opc p2 ≡ true → Safe f (parameterAsked opc p1 p2 f)
     unfolding parameterAsked
-    safe-parameter w = or-refused _ _ _ _ (λ _. or-refused _ _ _ _ (λ _. safe-order w))
+    safe-parameter w = or-refused _ _ _ _ (λ _. or-refused (valueRight opc p2 f) _ _ _ (λ v. safe-order w v))
 
   safe-option : (opc p1 p2 : ℕ) → opcKnown opc ≡ true → channelRight opc p1 ≡ true → length f ≡ fieldAt + lenIn f → Safe f (optionAsked opc p1 p2 f)
   unfolding optionAsked
@@ -102,7 +133,3 @@ module _ (f : List ℕ) where
       (λ l. or-refused (opcKnown (opcIn f)) _ _ _
       (λ k. or-refused (channelRight (opcIn f) (p1In f)) _ _ _
       (λ h. or-refused _ _ _ _ (λ _. safe-option (opcIn f) (p1In f) (p2In f) k h (eqb-true (length f) (fieldAt + lenIn f) l)))))
-
-  -- the same of what it was found to ask
-  pub known : (order : Order) → asked f ≡ order → Safe f order
-  known order e = subst (Safe f) e safe

@@ -11,7 +11,7 @@ use lib.Dec.{eqb}
 use lib.ListN.{length, getD}
 use Rattle.wire.specs.Choose.{choose}
 use Rattle.wire.proofs.Cases.{yes, no, by-choice}
-use Rattle.card.specs.Numbers.{frameForm, probeFault}
+use Rattle.card.specs.Numbers.{probeFault}
 use Rattle.card.specs.Layout.{Card, channels, demandsAt}
 use Rattle.card.specs.Probe.{faultCode, readingOf}
 use Rattle.card.specs.Reply.{WordsReply, onWords, sent, shell, roomLeast, Keeps}
@@ -21,21 +21,15 @@ use Rattle.card.proofs.Facts.{and-true}
 use Rattle.card.proofs.Replies.{shell-keeps}
 use Rattle.lucid.specs.Form.{fits, channelsFrom, channelsOf, demand}
 use Rattle.lucid.specs.Frame.{asked}
-use Rattle.lucid.specs.Answer.{Values, Held, Failed, joined, group, readingIn, valueOf, read, obeyed, lucidWords, lucidReply, named, readsProbe, asksProbe, faultReply}
+use Rattle.lucid.specs.Answer.{Values, Held, Failed, joined, group, valueOf, read, faulted, answerTo, changed, leaving, obeyed, lucidWords, lucidReply, named, readsProbe, asksProbe}
 use Rattle.lucid.specs.declared.frame.Order.{Order}
 use Rattle.lucid.specs.declared.frame.Order.the-variants.{Refused, GetIo, SetIo, GetParam, SetParam, Reset}
 use Rattle.lucid.proofs.Groups.{value-fault}
 
--- keeps
-read-keeps : (card : Card) (g : Values) → Keeps card (onWords card (read (card .words) g))
-unfolding read
-read-keeps card (Held bytes) = record { kept = λ _. refl }
-read-keeps card Failed = record { kept = λ _. refl }
-
 obeyed-keeps : (card : Card) (f : List ℕ) (order : Order) → Keeps card (onWords card (obeyed (card .words) (card .memory) f order))
-unfolding obeyed
+unfolding answerTo changed
 obeyed-keeps card f (Refused number status) = record { kept = λ _. refl }
-obeyed-keeps card f (GetIo kind mask) = read-keeps card (group (valueOf (card .words) (card .memory) kind) (channelsOf mask))
+obeyed-keeps card f (GetIo kind mask) = record { kept = λ _. refl }
 obeyed-keeps card f (SetIo mask) = record { kept = λ h. let z : ⊥ = omega arith in absurd z }
 obeyed-keeps card f (GetParam place) = record { kept = λ _. refl }
 obeyed-keeps card f (SetParam place saved value) = record { kept = λ h. let z : ⊥ = omega arith in absurd z }
@@ -48,7 +42,6 @@ keeps card room f =
     shell-keeps roomLeast card room _
     (by-choice (λ (r : WordsReply). Keeps card (onWords card r)) (fits (length f)) _ _ (λ _. obeyed-keeps card f (asked f)) (λ _. record { kept = λ _. refl }))
 
--- fault
 joined-failed : (g : Values) → joined g Failed ≡ Failed
 unfolding joined
 joined-failed (Held bytes) = refl
@@ -71,17 +64,14 @@ group-fault value (suc n) k mask (suc channel) h b e =
     more r = rw r (joined-failed (value k))
 
 order-fault : (ws memory f : List ℕ) (order : Order) (channel : ℕ) → channel < channels → readsProbe order channel ≡ true → getD memory channel 0 ≡ faultCode
-    → obeyed ws memory f order ≡ record { number = probeFault; bytes = faultReply; words = ws }
-unfolding obeyed readsProbe read readingOf choose
+    → obeyed ws memory f order ≡ leaving ws faulted
+unfolding answerTo changed readsProbe read readingOf choose
 order-fault ws memory f (Refused number status) channel h r code = cc
 order-fault ws memory f (GetIo kind mask) channel h r code =
     let b = and-true (not (eqb kind demand)) (named channel mask) r in
-    let reading : readingOf (getD memory channel 0) ≡ Fault = ap readingOf code ∙ fault-reading in
+    let reading : readingOf (getD memory channel 0) ≡ Fault = ap readingOf code in
     let failed = value-fault ws memory kind channel (eqb-false kind demand (not-true _ (b .0))) reading in
-    ap (read ws) (group-fault (valueOf ws memory kind) channels 0 mask channel h (b .1) (rw zero-add failed))
-  where
-    fault-reading : readingOf faultCode ≡ Fault
-    fault-reading = refl
+    ap (λ (g : Values). leaving ws (read g)) (group-fault (valueOf ws memory kind) channels 0 mask channel h (b .1) (rw zero-add failed))
 order-fault ws memory f (SetIo mask) channel h r code = cc
 order-fault ws memory f (GetParam place) channel h r code = cc
 order-fault ws memory f (SetParam place saved value) channel h r code = cc
@@ -89,7 +79,7 @@ order-fault ws memory f (Reset which saved) channel h r code = cc
 
 -- the probe of a channel at fault, asked for alone or in a group: unless 12 or 11 comes first, the fault reply (9, D0h) and nothing else
 pub fault : (card : Card) (room : ℕ) (f : List ℕ) (channel : ℕ) → channel < channels → asksProbe f channel ≡ true → getD (card .memory) channel 0 ≡ faultCode
-    → lucidReply card room f ≡ shell roomLeast card room (sent probeFault faultReply card)
+    → lucidReply card room f ≡ shell roomLeast card room (sent probeFault (faulted .bytes) card)
 unfolding lucidReply lucidWords asksProbe
 fault card room f channel h a code =
     let b = and-true (fits (length f)) (readsProbe (asked f) channel) a in
@@ -125,10 +115,10 @@ value-same ws memory memory′ kind channel same = by (eqb kind demand) refl
 
 order-same : (ws memory memory′ f : List ℕ) (order : Order) → ((channel : ℕ) → channel < channels → readsProbe order channel ≡ true → getD memory channel 0 ≡ getD memory′ channel 0)
     → obeyed ws memory f order ≡ obeyed ws memory′ f order
-unfolding obeyed readsProbe
+unfolding answerTo changed readsProbe
 order-same ws memory memory′ f (Refused number status) same = refl
 order-same ws memory memory′ f (GetIo kind mask) same =
-    ap (read ws)
+    ap (λ (g : Values). leaving ws (read g))
     (group-same (valueOf ws memory kind) (valueOf ws memory′ kind) channels 0 mask
     (λ channel h b. rw zero-add (value-same ws memory memory′ kind channel (λ e. same channel h (rw (e, b))))))
 order-same ws memory memory′ f (SetIo mask) same = refl

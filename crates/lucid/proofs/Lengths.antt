@@ -50,8 +50,13 @@ module _ (opc p1 p2 : ℕ) where
         ltb-true p1 channels (or-right _ _ (sized .channel) group)
 
     -- a command on parameters that resets nothing
+    is-param : isGet opc ≡ false → isSet opc ≡ false → isParam opc ≡ true
+    is-param g s = or-right _ _ (or-right _ _ (sized .known) g) s
+
+    pub has-value : isGet opc ≡ false → isSet opc ≡ false → isReset opc p2 ≡ false → eqb opc getParam ≡ false → hasValue opc p2 ≡ true
+    has-value g s r n = both-but _ _ (or-left (eqb opc setParam) _ (is-param g s) n) r
+
     pub parameter-within : isGet opc ≡ false → isSet opc ≡ false → isReset opc p2 ≡ false
         → (p1 < channels) × ((fieldAt + addressSize ≤ length f) × ((opc ≡ getParam → ⊥) → fieldAt + addressSize + parameterSize ≤ length f))
     parameter-within g s r =
-        let param : isParam opc ≡ true = or-right _ _ (or-right _ _ (sized .known) g) s in
-        (single-channel g s, (address-within (both-but _ _ param r), λ n. value-within (both-but _ _ (or-left (eqb opc setParam) _ param (ne-eqb opc getParam n)) r)))
+        (single-channel g s, (address-within (both-but _ _ (is-param g s) r), λ n. value-within (has-value g s r (ne-eqb opc getParam n))))

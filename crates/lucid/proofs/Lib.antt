@@ -5,4 +5,6 @@ pub mod Judged
 pub mod Bytes
 pub mod Groups
 pub mod Replies
+pub mod Orders
 pub mod Laws
+pub mod Fits

@@ -10,7 +10,7 @@ use Rattle.wire.specs.Word.{wordValues}
 use Rattle.card.specs.Numbers.{answered, frameForm, probeFault}
 use Rattle.card.specs.Layout.{Card, demandsAt, parametersAt, keptAt}
 use Rattle.card.specs.Probe.{readingOf}
-use Rattle.card.specs.Reply.{Reply, WordsReply, onWords, roomLeast, shell}
+use Rattle.card.specs.Reply.{Reply, WordsReply, Wrote, onWords, roomLeast, shell}
 use Rattle.card.specs.declared.probe.Tenths.{Tenths}
 use Rattle.card.specs.declared.probe.Reading.{Reading}
 use Rattle.card.specs.declared.probe.Reading.the-variants.{Temperature, Fault}
@@ -54,26 +54,40 @@ unfoldable pub valueOf : List ℕ → List ℕ → ℕ → ℕ → Values
 valueOf ws memory kind channel =
     choose (eqb kind demand) (Held (little demandSize (getD ws (demandsAt + channel) 0))) (readingIn kind (readingOf (getD memory channel 0)))
 
--- "answer: status, LEN, data"
-abbrev pub answerOf : ℕ → List ℕ → List ℕ
-answerOf status bytes = status ∷ length bytes ∷ bytes
+-- a number and its wire bytes
+pub record Answer : Type 0 where
+  pub number : ℕ
+  pub bytes : List ℕ
 
--- a number with an answer; the words as they then stand
-abbrev pub told : ℕ → ℕ → List ℕ → List ℕ → WordsReply
-told number status bytes ws = record { number = number; bytes = answerOf status bytes; words = ws }
+-- "answer: status, LEN, data"
+abbrev pub told : ℕ → ℕ → List ℕ → Answer
+told number status bytes = record { number = number; bytes = status ∷ length bytes ∷ bytes }
 
 -- "A refusal answers its status and LEN 0"
-abbrev pub refused : ℕ → ℕ → List ℕ → WordsReply
-refused number status ws = told number status [] ws
+abbrev pub refused : ℕ → ℕ → Answer
+refused number status = told number status []
 
 -- a command that was done and gives no data
-abbrev pub done : List ℕ → WordsReply
-done ws = told answered ok [] ws
+abbrev pub done : Answer
+done = told answered ok []
 
--- the answer to GetIo and GetIoGroup; "fault (9, D0h)"
-unfoldable pub read : List ℕ → Values → WordsReply
-read ws (Held bytes) = told answered ok bytes ws
-read ws Failed = refused probeFault errExecution ws
+-- a probe at fault: no temperature is in it; "fault (9, D0h)"
+abbrev pub faulted : Answer
+faulted = refused probeFault errExecution
+
+-- what is told of values
+unfoldable pub read : Values → Answer
+read (Held bytes) = told answered ok bytes
+read Failed = faulted
+
+-- what is answered to an order
+unfoldable pub answerTo : List ℕ → List ℕ → Order → Answer
+answerTo ws memory (Refused number status) = refused number status
+answerTo ws memory (GetIo kind mask) = read (group (valueOf ws memory kind) (channelsOf mask))
+answerTo ws memory (SetIo mask) = done
+answerTo ws memory (GetParam place) = told answered ok (little parameterSize (getD ws (parametersAt + place) 0))
+answerTo ws memory (SetParam place saved value) = done
+answerTo ws memory (Reset channel saved) = done
 
 -- the words with the demands of channels set, in their order, from the frame's bytes at an index on
 unfoldable pub demanded : List ℕ → List ℕ → ℕ → List ℕ → List ℕ
@@ -96,18 +110,26 @@ floorDefault = 0
 unfoldable pub reset : ℕ → Bool → List ℕ → List ℕ
 reset channel saved ws = stored (2 * channel + 1) saved floorDefault (stored (2 * channel) saved cycleDefault ws)
 
--- what the card does with what is asked
-unfoldable pub obeyed : List ℕ → List ℕ → List ℕ → Order → WordsReply
-obeyed ws memory f (Refused number status) = refused number status ws
-obeyed ws memory f (GetIo kind mask) = read ws (group (valueOf ws memory kind) (channelsOf mask))
-obeyed ws memory f (SetIo mask) = done (demanded (channelsOf mask) f fieldAt ws)
-obeyed ws memory f (GetParam place) = told answered ok (little parameterSize (getD ws (parametersAt + place) 0)) ws
-obeyed ws memory f (SetParam place saved value) = done (stored place saved value ws)
-obeyed ws memory f (Reset channel saved) = done (reset channel saved ws)
+-- what the words become by an order
+unfoldable pub changed : List ℕ → List ℕ → Order → List ℕ
+changed ws f (Refused number status) = ws
+changed ws f (GetIo kind mask) = ws
+changed ws f (SetIo mask) = demanded (channelsOf mask) f fieldAt ws
+changed ws f (GetParam place) = ws
+changed ws f (SetParam place saved value) = stored place saved value ws
+changed ws f (Reset channel saved) = reset channel saved ws
+
+-- an answer, and the words as they then stand
+abbrev pub leaving : List ℕ → Answer → WordsReply
+leaving ws answer = record { number = answer .number; bytes = answer .bytes; words = ws }
+
+-- what the card does with an order
+abbrev pub obeyed : List ℕ → List ℕ → List ℕ → Order → WordsReply
+obeyed ws memory f order = leaving (changed ws f order) (answerTo ws memory order)
 
 -- what the card does with a frame; one shorter than the shortest or longer than the longest is 3, silent
 unfoldable pub lucidWords : List ℕ → List ℕ → List ℕ → WordsReply
-lucidWords ws memory f = choose (fits (length f)) (obeyed ws memory f (asked f)) (record { number = frameForm; bytes = []; words = ws })
+lucidWords ws memory f = choose (fits (length f)) (obeyed ws memory f (asked f)) (leaving ws (record { number = frameForm; bytes = [] }))
 
 -- the entry's whole meaning; room is the answer buffer's length
 unfoldable pub lucidReply : Card → ℕ → List ℕ → Reply
@@ -131,11 +153,12 @@ readsProbe (Reset which saved) channel = false
 unfoldable pub asksProbe : List ℕ → ℕ → Bool
 asksProbe f channel = fits (length f) && readsProbe (asked f) channel
 
--- the reply to a failed probe: no temperature is in it
-abbrev pub faultReply : List ℕ
-faultReply = errExecution ∷ 0 ∷ []
-
 -- bytes were put at the end of the n bytes held so far
 pub record Grew (bytes values : List ℕ) (n len : ℕ) (values′ : List ℕ) : Type 0 where
   pub counted : len ≡ n + length bytes
   pub held : take len values′ ≡ take n values ++ bytes
+
+-- an answer was given: the number, its length and the whole answer buffer
+pub record Told (answer : Answer) (out : List ℕ) (number len : ℕ) (out′ : List ℕ) : Type 0 where
+  pub numbered : number ≡ answer .number
+  pub wrote : Wrote (answer .bytes) out len out′

@@ -1,6 +1,7 @@
 -- What a LucidControl frame asks, in the order of document 01, "LucidControl": a line of an order is a test, and the number and the
 -- status if it fails. A test that a command has no use for passes. The last of the order, the fault, is found in answering.
-use Prim.Native.Nat.{ℕ, _+_, _*_, _^_}
+use Prim.{Unit}
+use Prim.Native.Nat.{ℕ, _+_, _*_, _^_, _<_}
 use mathlib.Core.Path.{_≡_}
 use mathlib.Core.Bool.{Bool, true, _&&_, _||_, not}
 use mathlib.Core.List.{List}
@@ -9,7 +10,7 @@ use lib.Dec.{leb, ltb, eqb}
 use lib.ListN.{length, getD}
 use Rattle.wire.specs.Choose.{choose}
 use Rattle.card.specs.Numbers.{frameForm, commandUnknown, rangeUnknown, valueOutside, readOnly}
-use Rattle.card.specs.Layout.{channels}
+use Rattle.card.specs.Layout.{channels, parameterCount}
 use Rattle.card.specs.Tables.{inSpan, cycleLeast, cycleMost, floorMost}
 use Rattle.lucid.specs.Form.{
   opcAt,
@@ -26,6 +27,7 @@ use Rattle.lucid.specs.Form.{
   maskMost,
   channelsOf,
   demand,
+  demandSize,
   tenths,
   hundredths,
   sizeOf,
@@ -200,3 +202,21 @@ pub record Sized (opc p1 p2 : ℕ) (f : List ℕ) : Type 0 where
   pub known : opcKnown opc ≡ true
   pub channel : channelRight opc p1 ≡ true
   pub measured : length f ≡ fieldAt + lenFor opc p1 p2
+
+-- what is known of an order that a frame asks: the places that it names are the card's
+abbrev pub Placed : Order → Type 0
+Placed (Refused number status) = Unit {0}
+Placed (GetIo kind mask) = Unit {0}
+Placed (SetIo mask) = Unit {0}
+Placed (GetParam place) = place < parameterCount
+Placed (SetParam place saved value) = place < parameterCount
+Placed (Reset channel saved) = channel < channels
+
+-- and SetIo has two bytes of data for each channel
+abbrev pub Supplied : List ℕ → Order → Type 0
+Supplied f (Refused number status) = Unit {0}
+Supplied f (GetIo kind mask) = Unit {0}
+Supplied f (SetIo mask) = length f ≡ fieldAt + demandSize * length (channelsOf mask)
+Supplied f (GetParam place) = Unit {0}
+Supplied f (SetParam place saved value) = Unit {0}
+Supplied f (Reset channel saved) = Unit {0}

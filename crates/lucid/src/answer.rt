@@ -15,17 +15,19 @@ use card::probe::Reading;
 use card::probe::Tenths;
 use card::probe::read_code;
 ghost use mathlib.Core.Path.{_≡_};
-ghost use mathlib.Core.List.{[]};
 ghost use Prim.Native.Nat.{_+_, _*_, _≤_, _<_};
 ghost use lib.ListN.{length, take, getD};
 ghost use Rattle.card.specs.Numbers.{answered};
 ghost use Rattle.card.specs.Layout.{channels, parameterCount, parametersAt, wordCount, memorySize};
-ghost use Rattle.card.specs.Reply.{roomLeast, Wrote, GaveWords};
+ghost use Rattle.card.specs.Reply.{roomLeast, GaveWords};
 ghost use Rattle.lucid.specs.Form.{fieldAt, channelsOf, demandSize, tenthsSize, hundredthsSize, parameterSize, ok, little};
-ghost use Rattle.lucid.specs.Answer.{group, hundredthsOf, temperatureIn, valueOf, answerOf, read, demanded, stored, reset, lucidWords, Grew};
+ghost use Rattle.lucid.specs.Frame.{Placed, Supplied};
+ghost use Rattle.lucid.specs.Answer.{group, hundredthsOf, temperatureIn, valueOf, told, refused, read, answerTo, demanded, stored, reset, changed, lucidWords, Grew, Told};
 
 // The most bytes of data that an answer has: four channels in type 41h.
 const VALUES: usize = 16;
+
+const NO_VALUES: [u8; VALUES] = [0; VALUES];
 
 // The defaults of 1110h and 1120h. Document 01, "What the card holds".
 const CYCLE_DEFAULT: u32 = 1_000_000;
@@ -51,7 +53,7 @@ impl Hundredths {
 // Writes status, LEN and the first len bytes of values.
 fn respond(out: &mut [u8], number: u8, status: u8, values: &[u8], len: usize) -> Outcome
     requires { ⌜ (len ≤ length (now values)) × ((length (now values) ≤ 16) × (roomLeast ≤ length (now out))) ⌝ }
-    ensures { λ r. ⌜ (r .number ≡ number) × Wrote (answerOf status (take len (now (values .entry)))) (now (out .entry)) (r .len) (now (out .exit)) ⌝ }
+    ensures { λ r. ⌜ Told (told number status (take len (now (values .entry)))) (now (out .entry)) (r .number) (r .len) (now (out .exit)) ⌝ }
 {
     out[0] = status;
     out[1] = len as u8;
@@ -80,9 +82,9 @@ fn put_little(word: u32, size: usize, values: &mut [u8], n: usize) -> usize
 // A status with LEN 0.
 fn tell(out: &mut [u8], number: u8, status: u8) -> Outcome
     requires { ⌜ roomLeast ≤ length (now out) ⌝ }
-    ensures { λ r. ⌜ (r .number ≡ number) × Wrote (answerOf status []) (now (out .entry)) (r .len) (now (out .exit)) ⌝ }
+    ensures { λ r. ⌜ Told (refused number status) (now (out .entry)) (r .number) (r .len) (now (out .exit)) ⌝ }
 {
-    let values = [0u8; VALUES];
+    let values = NO_VALUES;
     respond(out, number, status, &values, 0)
 }
 
@@ -116,9 +118,9 @@ fn put_temperature(kind: u8, t: Tenths, values: &mut [u8], n: usize) -> usize
 // Answers the value of a parameter.
 fn read_parameter(words: &[u32], place: u8, out: &mut [u8]) -> Outcome
     requires { ⌜ (length (now words) ≡ wordCount) × ((place < parameterCount) × (roomLeast ≤ length (now out))) ⌝ }
-    ensures { λ r. ⌜ (r .number ≡ answered) × Wrote (answerOf ok (little parameterSize (getD (now (words .entry)) (parametersAt + place) 0))) (now (out .entry)) (r .len) (now (out .exit)) ⌝ }
+    ensures { λ r. ⌜ Told (told answered ok (little parameterSize (getD (now (words .entry)) (parametersAt + place) 0))) (now (out .entry)) (r .number) (r .len) (now (out .exit)) ⌝ }
 {
-    let mut values = [0u8; VALUES];
+    let mut values = NO_VALUES;
     let value = words[PARAMETERS + place as usize];
     let len = put_little(value, Lucid::PARAMETER_SIZE as usize, &mut values, 0);
     respond(out, ANSWERED, Lucid::OK, &values, len)
@@ -165,10 +167,9 @@ fn set_demands(words: &mut [u32], mask: u8, f: &[u8])
 // Answers the values of the channels that a mask names, lowest first; or the fault, with nothing of the group in it.
 fn read_channels(words: &[u32], memory: &[u8], kind: u8, mask: u8, out: &mut [u8]) -> Outcome
     requires { ⌜ (length (now words) ≡ wordCount) × ((length (now memory) ≡ memorySize) × (roomLeast ≤ length (now out))) ⌝ }
-    ensures { λ r. ⌜ GaveWords (read (now (words .entry)) (group (valueOf (now (words .entry)) (now (memory .entry)) kind) (channelsOf mask)))
-        (now (out .entry)) (r .number) (r .len) (now (words .entry)) (now (out .exit)) ⌝ }
+    ensures { λ r. ⌜ Told (read (group (valueOf (now (words .entry)) (now (memory .entry)) kind) (channelsOf mask))) (now (out .entry)) (r .number) (r .len) (now (out .exit)) ⌝ }
 {
-    let mut values = [0u8; VALUES];
+    let mut values = NO_VALUES;
     let mut len = 0;
     let mut left = mask;
     let mut channel = 0;
@@ -195,6 +196,32 @@ fn read_channels(words: &[u32], memory: &[u8], kind: u8, mask: u8, out: &mut [u8
     respond(out, ANSWERED, Lucid::OK, &values, len)
 }
 
+// Answers an order.
+fn answer(words: &[u32], memory: &[u8], order: Order, out: &mut [u8]) -> Outcome
+    requires { ⌜ ((length (now words) ≡ wordCount) × (length (now memory) ≡ memorySize)) × (Placed order × (roomLeast ≤ length (now out))) ⌝ }
+    ensures { λ r. ⌜ Told (answerTo (now (words .entry)) (now (memory .entry)) order) (now (out .entry)) (r .number) (r .len) (now (out .exit)) ⌝ }
+{
+    match order {
+        Order::Refused(number, status) => tell(out, number, status),
+        Order::GetIo(kind, mask) => read_channels(words, memory, kind, mask, out),
+        Order::GetParam(place) => read_parameter(words, place, out),
+        _ => tell(out, ANSWERED, Lucid::OK),
+    }
+}
+
+// Does what an order changes.
+fn change(words: &mut [u32], f: &[u8], order: Order)
+    requires { ⌜ (length (now words) ≡ wordCount) × (Placed order × Supplied (now f) order) ⌝ }
+    ensures { λ _. ⌜ now (words .exit) ≡ changed (now (words .entry)) (now (f .entry)) order ⌝ }
+{
+    match order {
+        Order::SetIo(mask) => set_demands(words, mask, f),
+        Order::SetParam(place, saved, value) => store(words, place as usize, saved, value),
+        Order::Reset(channel, saved) => reset(words, channel as usize, saved),
+        _ => {}
+    }
+}
+
 // What the card does with a frame.
 pub(crate) fn obey(words: &mut [u32], memory: &[u8], f: &[u8], out: &mut [u8]) -> Outcome
     requires { ⌜ (length (now words) ≡ wordCount) × ((length (now memory) ≡ memorySize) × (roomLeast ≤ length (now out))) ⌝ }
@@ -207,21 +234,7 @@ pub(crate) fn obey(words: &mut [u32], memory: &[u8], f: &[u8], out: &mut [u8]) -
         };
     }
     let order = order_of(f);
-    match order {
-        Order::Refused(number, status) => tell(out, number, status),
-        Order::GetIo(kind, mask) => read_channels(words, memory, kind, mask, out),
-        Order::GetParam(place) => read_parameter(words, place, out),
-        Order::SetIo(mask) => {
-            set_demands(words, mask, f);
-            tell(out, ANSWERED, Lucid::OK)
-        }
-        Order::SetParam(place, saved, value) => {
-            store(words, place as usize, saved, value);
-            tell(out, ANSWERED, Lucid::OK)
-        }
-        Order::Reset(channel, saved) => {
-            reset(words, channel as usize, saved);
-            tell(out, ANSWERED, Lucid::OK)
-        }
-    }
+    let given = answer(words, memory, order, out);
+    change(words, f, order);
+    given
 }

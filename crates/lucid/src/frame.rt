@@ -203,7 +203,9 @@ pub(crate) fn pair(f: &[u8], at: usize) -> u32
     requires { ⌜ at + 1 < length (now f) ⌝ }
     ensures { λ r. ⌜ (r ≡ numberAt 2 (now (f .entry)) at) × (r < 65536) ⌝ }
 {
-    address(f[at], f[at + 1]) as u32
+    let low = f[at];
+    let high = f[at + 1];
+    address(low, high) as u32
 }
 
 // The value of a frame that has one.

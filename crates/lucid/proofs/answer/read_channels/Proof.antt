@@ -1,10 +1,10 @@
 -- `lucid::answer::read_channels` meets its contract. The invariant: the values held and those of the channels still to come are those of the whole group. Assumes nothing.
-use Rattle.lucid.proofs.Replies.{given-held, given-failed}
+use Rattle.lucid.proofs.Replies.{told-as, told-on}
 use Rattle.lucid.proofs.Groups.{joined-none, group-grew, group-passed, group-failed, group-done, value-demand, value-probe, value-fault, length-temperature}
-use Rattle.lucid.proofs.Bytes.{length-little, wrote-on}
+use Rattle.lucid.proofs.Bytes.{length-little}
 use mathlib.Core.Logic.{⊎-elim}
 use Rattle.lucid.proofs.Channels.{channelsLeft}
-use Rattle.lucid.specs.Answer.{Held, joined, group, valueOf}
+use Rattle.lucid.specs.Answer.{Held, joined, group, valueOf, read}
 use Rattle.lucid.specs.Form.{channelsOf}
 use lib.ListN.{length, take}
 use mathlib.Core.Path.{_≡_, refl, sym, ap, _∙_}
@@ -68,11 +68,12 @@ same-length : tie.Need-same-length Inv-loop μ-loop
 same-length c = c .before .before .respond .kept .0 ∙ ap length (c .before .before .before .before .before .before .before .before .before .before .before .before .loop .inv .1 .0)
 
 returns : tie.Need-returns Inv-loop μ-loop
+unfolding read
 returns c = let l = c .before .before .before .before .before .before .before .before .before .before .before .before .loop in
     let a = c .before .before .before .before .before .before .before .before .before .before .before .before .before .before .before .before .args in
     let fault = value-fault (a .words .now) (a .memory .now) (a .kind) (l .channel) (c .before .before .before .before .before .before .before .before .before .if2 .left) (sym (c .before .before .before .before .before .before .before .read-code .ensures) ∙ c .before .before .before .before .before .enum-told .given .1) in
     let none = sym (l .inv .1 .1 .1 .1) ∙ group-failed _ (l .channel) (l .left) (c .before .before .before .before .before .before .before .before .before .before .before .loop-test .taken) _ (c .before .before .before .before .before .before .before .before .before .before .if1 .taken) fault in
-    given-failed _ _ none (c .before .before .respond .ensures .0, wrote-on _ _ (l .inv .1 .0) (c .before .before .respond .ensures .1))
+    told-as _ _ (ap read (sym none)) (told-on _ _ (l .inv .1 .0) (c .before .before .respond .ensures))
 
 slice-aggregate-put-temperature : tie.Need-slice-aggregate-put-temperature Inv-loop μ-loop
 slice-aggregate-put-temperature c = sym (c .before .before .before .before .before .before .before .before .before .loop .inv .1 .1 .0)
@@ -115,9 +116,10 @@ same-length-2 : tie.Need-same-length-2 Inv-loop μ-loop
 same-length-2 c = c .before .before .respond2 .kept .0 ∙ ap length (c .before .before .before .before .before .before .loop .inv .1 .0)
 
 returns-2 : tie.Need-returns-2 Inv-loop μ-loop
+unfolding read
 returns-2 c = let l = c .before .before .before .before .before .before .loop in
     let whole = sym (l .inv .1 .1 .1 .1) ∙ group-done _ (l .channel) (l .left) _ (c .before .before .before .before .before .loop-test .left) in
-    given-held _ _ _ whole (c .before .before .respond2 .ensures .0, wrote-on _ _ (l .inv .1 .0) (c .before .before .respond2 .ensures .1))
+    told-as _ _ (ap read (sym whole)) (told-on _ _ (l .inv .1 .0) (c .before .before .respond2 .ensures))
 
 pub read-channels-spec : {M : Type 1} → statement M
 read-channels-spec =

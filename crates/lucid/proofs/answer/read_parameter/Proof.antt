@@ -1,8 +1,8 @@
 -- `lucid::answer::read_parameter` meets its contract. Assumes nothing.
+use Rattle.lucid.proofs.Replies.{told-as}
 use Rattle.lucid.proofs.Bytes.{length-little}
-use Rattle.lucid.specs.Answer.{answerOf}
+use Rattle.lucid.specs.Answer.{told}
 use mathlib.Core.Path.{ap}
-use Rattle.card.proofs.Replies.{wrote-as}
 use native.Mathlib.Omega.{arith}
 use borrow.Author.Needs.{needs}
 use Rattle.lucid.proofs.answer.read_parameter.Statement.{statement}
@@ -36,7 +36,7 @@ same-length : tie.Need-same-length
 same-length c = search needs
 
 returns : tie.Need-returns
-returns c = (c .before .before .respond .ensures .0, wrote-as _ _ (ap (answerOf 0) (c .before .before .before .before .before .before .put-little .ensures .held)) (c .before .before .respond .ensures .1))
+returns c = told-as _ _ (ap (told 0 0) (c .before .before .before .before .before .before .put-little .ensures .held)) (c .before .before .respond .ensures)
 
 pub read-parameter-spec : {M : Type 1} → statement M
 read-parameter-spec =

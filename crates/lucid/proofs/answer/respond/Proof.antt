@@ -34,13 +34,14 @@ same-length c = simp length-set at (c .before .before .copy .kept .1 .0)
 
 returns : tie.Need-returns
 returns c = let a = c .before .before .before .before .before .before .before .args in
-    let e = length-take-le (a .len) (a .values .now) (search needs) in (
-      refl,
-      record {
+    let e = length-take-le (a .len) (a .values .now) (search needs) in
+    record {
+      numbered = refl;
+      wrote = record {
         measured = omega (arith, e);
         written = c .before .before .copy .ensures ∙ overlay-head (a .status) (a .len) (take (a .len) (a .values .now)) (a .out .now) (search needs) ∙ ap (λ (n : ℕ). overlay (a .status ∷ n ∷ take (a .len) (a .values .now)) (a .out .now)) (sym e);
-      },
-    )
+      };
+    }
 
 pub respond-spec : {M : Type 1} → statement M
 respond-spec =

@@ -3,7 +3,8 @@ use native.Mathlib.Nat.{mul-le-mul, lt-of-le-of-lt}
 use lib.Dec.{lit<}
 use Prim.{tt}
 use Rattle.lucid.specs.Frame.{lenFor}
-use Rattle.wire.proofs.Cases.{cases, yes, no, told-true, told-false}
+use Rattle.wire.proofs.Cases.{yes, no, told-true, told-false}
+use borrow.Author.Tests.{eq-eqb, ne-eqb}
 use borrow.Author.Needs.{needs}
 use Rattle.lucid.proofs.frame.len_for.Statement.{statement}
 use Rattle.lucid.proofs.frame.len_for.Tie as tie
@@ -13,7 +14,7 @@ is-get-requires c κs = search needs
 
 returns : tie.Need-returns
 unfolding lenFor
-returns c = search cases
+returns c = search (yes, no, told-true, told-false, eq-eqb, ne-eqb) depth 12
 
 is-set-requires : tie.Need-is-set-requires
 is-set-requires c κs = search needs
@@ -37,21 +38,21 @@ returns-2 c = let tested = c .before .before .before in
 
 returns-3 : tie.Need-returns-3
 unfolding lenFor
-returns-3 c = search cases
+returns-3 c = search (yes, no, told-true, told-false, eq-eqb, ne-eqb) depth 12
 
 is-reset-requires : tie.Need-is-reset-requires
 is-reset-requires c κs = search needs
 
 returns-4 : tie.Need-returns-4
 unfolding lenFor
-returns-4 c = search cases
+returns-4 c = search (yes, no, told-true, told-false, eq-eqb, ne-eqb) depth 12
 
 add-result : tie.Need-add-result
 add-result c = search needs
 
 returns-5 : tie.Need-returns-5
 unfolding lenFor
-returns-5 c = search cases
+returns-5 c = search (yes, no, told-true, told-false, eq-eqb, ne-eqb) depth 12
 
 pub len-for-spec : {M : Type 1} → statement M
 len-for-spec =

@@ -3,7 +3,7 @@ use Prim.Native.Nat.{ℕ, _+_}
 use borrow.Author.Tests.{eq-eqb, ne-eqb}
 use mathlib.Core.Path.{_≡_, refl, sym, ap, _∙_}
 use Rattle.lucid.specs.Frame.{lenIn, optionAsked}
-use Rattle.wire.proofs.Cases.{cases}
+use Rattle.wire.proofs.Cases.{yes, no, told-yes, told-no}
 use borrow.Author.Needs.{needs}
 use Rattle.lucid.proofs.frame.option_asked.Statement.{statement}
 use Rattle.lucid.proofs.frame.option_asked.Tie as tie
@@ -13,21 +13,21 @@ type-known-requires c κs = search needs
 
 returns : tie.Need-returns
 unfolding optionAsked
-returns c = search cases
+returns c = search (yes, no, told-yes, told-no) depth 12
 
 type-writable-requires : tie.Need-type-writable-requires
 type-writable-requires c κs = search needs
 
 returns-2 : tie.Need-returns-2
 unfolding optionAsked
-returns-2 c = search cases
+returns-2 c = search (yes, no, told-yes, told-no) depth 12
 
 option-right-requires : tie.Need-option-right-requires
 option-right-requires c κs = search needs
 
 returns-3 : tie.Need-returns-3
 unfolding optionAsked
-returns-3 c = search cases
+returns-3 c = search (yes, no, told-yes, told-no) depth 12
 
 shared-slice-read-if4 : tie.Need-shared-slice-read-if4
 shared-slice-read-if4 c = search needs
@@ -37,7 +37,7 @@ len-for-requires c κs = search needs
 
 returns-4 : tie.Need-returns-4
 unfolding optionAsked
-returns-4 c = let wrong = ne-eqb (lenIn (c .before .before .before .before .before .before .before .before .before .before .args .f .now)) _ (λ e. c .if4 .taken (e ∙ sym (c .before .len-for .ensures))) in search cases
+returns-4 c = let wrong = ne-eqb (lenIn (c .before .before .before .before .before .before .before .before .before .before .args .f .now)) _ (λ e. c .if4 .taken (e ∙ sym (c .before .len-for .ensures))) in search (yes, no, told-yes, told-no) depth 12
 
 parameter-asked-requires : tie.Need-parameter-asked-requires
 parameter-asked-requires c κs = let s = c .before .before .before .before .before .before .before .before .before .before .pre in
@@ -45,7 +45,7 @@ parameter-asked-requires c κs = let s = c .before .before .before .before .befo
 
 returns-5 : tie.Need-returns-5
 unfolding optionAsked
-returns-5 c = let right = eq-eqb (lenIn (c .before .before .before .before .before .before .before .before .before .before .before .args .f .now)) _ (c .before .if4 .left ∙ c .before .before .len-for .ensures) in search cases
+returns-5 c = let right = eq-eqb (lenIn (c .before .before .before .before .before .before .before .before .before .before .before .args .f .now)) _ (c .before .if4 .left ∙ c .before .before .len-for .ensures) in search (yes, no, told-yes, told-no) depth 12
 
 pub option-asked-spec : {M : Type 1} → statement M
 option-asked-spec =

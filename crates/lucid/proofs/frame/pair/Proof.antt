@@ -6,14 +6,14 @@ use borrow.Author.Needs.{needs}
 use Rattle.lucid.proofs.frame.pair.Statement.{statement}
 use Rattle.lucid.proofs.frame.pair.Tie as tie
 
-shared-slice-read-address : tie.Need-shared-slice-read-address
-shared-slice-read-address c = search needs
+shared-slice-read-low : tie.Need-shared-slice-read-low
+shared-slice-read-low c = search needs
 
-add-address : tie.Need-add-address
-add-address c = search needs
+add-high : tie.Need-add-high
+add-high c = search needs
 
-shared-slice-read-address-2 : tie.Need-shared-slice-read-address-2
-shared-slice-read-address-2 c = search needs
+shared-slice-read-high : tie.Need-shared-slice-read-high
+shared-slice-read-high c = search needs
 
 address-requires : tie.Need-address-requires
 address-requires c κs = search needs
@@ -29,9 +29,9 @@ pub pair-spec : {M : Type 1} → statement M
 pair-spec =
     tie.close
     (tie.spec
-    shared-slice-read-address
-    add-address
-    shared-slice-read-address-2
+    shared-slice-read-low
+    add-high
+    shared-slice-read-high
     address-requires
     cast-result
     returns)
