@@ -1,6 +1,6 @@
 -- What an arrival of each of the master's frames, and another's frame, does to the card. Assumes nothing.
 use mathlib.Core.Path.{_≡_, refl, sym, ap, _∙_, subst}
-use mathlib.Core.Bool.{Bool, true, false, _&&_, not}
+use mathlib.Core.Bool.{Bool, true, false, not}
 use mathlib.Core.List.{List, [], _∷_, _++_}
 use mathlib.Core.Logic.{_⊎_}
 use mathlib.Core.Logic._⊎_.{inl, inr}
@@ -15,7 +15,7 @@ use Rattle.wire.specs.Choose.{choose}
 use Rattle.wire.specs.Buffer.{part}
 use Rattle.wire.specs.Sum.{sumOf}
 use Rattle.wire.proofs.Cases.{by-choice}
-use Rattle.card.specs.Numbers.{answered, done, foreignAddress, nothingPending, bufferShort, cardUnfit, rangeUnknown, readOnly, frameForm}
+use Rattle.card.specs.Numbers.{foreignAddress, nothingPending, bufferShort, cardUnfit, rangeUnknown, readOnly, frameForm}
 use Rattle.card.specs.Layout.{Card, kindAt}
 use Rattle.card.specs.Tables.{noChange, inMemory, namesReadOnly, fit}
 use Rattle.card.specs.Reply.{Reply, silent, shell, roomLeast}
@@ -23,7 +23,7 @@ use Rattle.datalink.specs.Frame.{numPlace, dataPlace, framed, lengthRight, aske
 use Rattle.datalink.specs.Answer.{response, iaOf, shown, bodyOf, pended, applied, echoed, interrogated, acknowledged, obeyed, datalinkReply}
 use Rattle.datalink.specs.declared.frame.Order.{Order}
 use Rattle.datalink.specs.declared.frame.Order.the-variants.{Refused, Interrogate, Change, Acknowledge}
-use Rattle.master.specs.Request.{Ask, Request, namedBy}
+use Rattle.master.specs.Request.{Request, namedBy}
 use Rattle.master.specs.Accepted.{Accepted}
 use Rattle.master.specs.Frames.{dataOf, commandOf, body, changeBody, changeFrame, acknowledgeFrame, interrogateFrame, echo}
 use Rattle.exchange.specs.Line.{refused}

@@ -1,14 +1,14 @@
 -- The invariant under an arrival of the frame last sent. Assumes nothing.
-use mathlib.Core.Path.{_≡_, refl, sym, _∙_, subst}
-use mathlib.Core.Bool.{Bool, true, false, not}
-use mathlib.Core.List.{List, [], _∷_}
+use mathlib.Core.Path.{_≡_, sym, _∙_, subst}
+use mathlib.Core.Bool.{Bool, true, not}
+use mathlib.Core.List.{List, []}
 use mathlib.Core.Logic.{_⊎_}
 use mathlib.Core.Logic._⊎_.{inl, inr}
-use Prim.Native.Nat.{ℕ, _+_, _-_, _≤_, _<_}
+use Prim.Native.Nat.{ℕ, _+_, _-_, _≤_}
 use native.Mathlib.Omega.{arith}
 use borrow.Author.Tests.{eqb-true, leb-false, not-true}
-use lib.Dec.{eqb, leb}
-use lib.ListN.{length, getD, drop, length-take, length-drop}
+use lib.Dec.{eqb}
+use lib.ListN.{length, drop, length-take, length-drop}
 use lib.Seq.{getD-drop, getD-take}
 use Rattle.wire.proofs.Cases.{by-choice}
 use Rattle.card.specs.Numbers.{answered, foreignAddress}

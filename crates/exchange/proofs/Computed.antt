@@ -11,7 +11,7 @@ use lib.ListN.{replicate}
 use Rattle.wire.specs.Choose.{choose}
 use Rattle.wire.specs.Buffer.{put, overlay}
 use Rattle.wire.specs.Sum.{total, sumOf}
-use Rattle.card.specs.Layout.{Card, cardOf, pendingSize, memorySize, registers}
+use Rattle.card.specs.Layout.{Card, cardOf}
 use Rattle.card.specs.Tables.{inSpan, allIn, inMemory, namesReadOnly, named, numRight, echoable, addressOf, fitPending, fitAddresses, fitParameters, fitWords, fit}
 use Rattle.card.specs.Reply.{shell, guarded}
 use Rattle.card.specs.Entries.{withCode, setCode, fullDemands, keptParameters, savedCopy, savedRegisters, dropped, faulted, restarted, restart}
@@ -19,7 +19,7 @@ use Rattle.card.proofs.Facts.{and-true}
 use Rattle.datalink.specs.Frame.{iaIn, commandIn, numIn, addressIn, framed, commandKnown, kindOf, kindIn, namedIn, isAcknowledge, carried, lengthRight, formRight, lrcRight, rangeRight, changeAllowed, changeRight, orderIn, asked}
 use Rattle.datalink.specs.Answer.{response, iaOf, shown, interrogated, bodyOf, pended, echoed, newByte, changed, appliedTo, applied, acknowledged, obeyed, datalinkReply}
 use Rattle.master.specs.Request.{Request, askable, asAsked}
-use Rattle.master.specs.Request.Ask.{bytes, bits}
+use Rattle.master.specs.Request.Ask.{bytes}
 use Rattle.master.specs.Frames.{changeFrame, acknowledgeFrame, interrogateFrame, same, echo, isEcho, isResponse, allAsked, confirms}
 use Rattle.master.specs.Step.{move, stepOf}
 use Rattle.exchange.specs.Calls.{Call, replyOf}

@@ -1,6 +1,6 @@
 -- Demand 3, proved: one claim about every list of calls. Assumes nothing.
 use mathlib.Core.Path.{_≡_, refl, sym, ap, _∙_, subst}
-use mathlib.Core.Bool.{Bool, true, false}
+use mathlib.Core.Bool.{true}
 use mathlib.Core.List.{List, [], _∷_}
 use mathlib.Core.Logic.{_⊎_}
 use mathlib.Core.Logic._⊎_.{inl, inr}
@@ -16,17 +16,16 @@ use Rattle.master.specs.Accepted.{Accepted}
 use Rattle.master.specs.Step.{saysOf}
 use Rattle.master.specs.declared.Phase.{Phase}
 use Rattle.master.specs.declared.Phase.the-variants.{New, Changing, Acknowledging, Reading, EndedDone, EndedUnknown}
-use Rattle.master.specs.declared.Verdict.{Verdict}
-use Rattle.master.specs.declared.Verdict.the-variants.{Open, Done, Unknown}
+use Rattle.master.specs.declared.Verdict.the-variants.{Open, Done}
 use Rattle.master.proofs.Requests.{accepted}
 use Rattle.exchange.specs.Calls.{Call}
 use Rattle.exchange.specs.Calls.Call.{Step, Arrival, Restart, Datalink, Other}
-use Rattle.exchange.specs.Line.{Line, World, changeRound, begin, ours, afterRestart, called, run}
+use Rattle.exchange.specs.Line.{Line, World, changeRound, begin, asWritten, afterRestart, called, run}
 use Rattle.exchange.specs.Premise.{Quiet, AllQuiet, AsWorded}
 use Rattle.exchange.specs.Demand.{byteAt, Writable, Named, Old, AsAsked, due, allLossless, Demand3}
 use Rattle.exchange.proofs.Arrivals.{other-arrives}
-use Rattle.exchange.proofs.Memory.{Range, Same, Mild, mild-self, mild-restart, mild-entry}
-use Rattle.exchange.proofs.Invariant.{Asked, AllNamed, Settled, AtEnd, InvAt, Inv, mildly}
+use Rattle.exchange.proofs.Memory.{Same, mild-self, mild-restart, mild-entry}
+use Rattle.exchange.proofs.Invariant.{AllNamed, Settled, InvAt, Inv, mildly}
 use Rattle.exchange.proofs.Arriving.{arriving}
 use Rattle.exchange.proofs.Stepping.{settle, stepping}
 
@@ -44,7 +43,7 @@ restarted-line q start card EndedUnknown line v = record { settled = v .settled;
 
 module _ (q : Request) (a : Accepted q) (start : Card) where
   -- each call keeps the invariant
-  one-call : (w : World) (c : Call) → Quiet ours w c → Inv q start w → Inv q start (called ours q w c)
+  one-call : (w : World) (c : Call) → Quiet asWritten w c → Inv q start w → Inv q start (called asWritten q w c)
   unfolding called
   one-call w (Step choice room) h v = stepping q start (w .card) (w .line) choice (w .phase) room v
   one-call w (Arrival room) h v = arriving q a start (w .card) (w .line) room (w .phase) v
@@ -53,10 +52,10 @@ module _ (q : Request) (a : Accepted q) (start : Card) where
   one-call w (Datalink room f) h v = mildly q start (w .card) _ (mild-self (w .card) _ (other-arrives (w .card) room f h)) (w .phase) (w .line) v
   one-call w (Other e) h v = mildly q start (w .card) _ (mild-entry (w .card) e) (w .phase) (w .line) v
 
-  all-calls : (w : World) (calls : List Call) → AllQuiet ours q w calls → Inv q start w → Inv q start (run ours q w calls)
+  all-calls : (w : World) (calls : List Call) → AllQuiet asWritten q w calls → Inv q start w → Inv q start (run asWritten q w calls)
   unfolding run AllQuiet
   all-calls w [] h v = v
-  all-calls w (c ∷ calls) h v = all-calls (called ours q w c) calls (h .1) (one-call w c (h .0) v)
+  all-calls w (c ∷ calls) h v = all-calls (called asWritten q w c) calls (h .1) (one-call w c (h .0) v)
 
 module _ (q : Request) (start : Card) where
   -- from indices to addresses
@@ -141,18 +140,18 @@ module _ (q : Request) (start : Card) where
 
 -- DEMAND 3. For every request that 7 does not refuse, any tables, fit or not, and every list of calls throughout which the card accepts no other Datalink change or acknowledge,
 -- the claim holds after the list. A frame may arrive any number of times in its round.
-pub demand-3 : (q : Request) (start : Card) (calls : List Call) → askable q ≡ true → AllQuiet ours q (begin start) calls → Demand3 q start (run ours q (begin start) calls)
+pub demand-3 : (q : Request) (start : Card) (calls : List Call) → askable q ≡ true → AllQuiet asWritten q (begin start) calls → Demand3 q start (run asWritten q (begin start) calls)
 demand-3 q start calls e quiet =
     let a = accepted q e in
-    clauses q start (run ours q (begin start) calls)
+    clauses q start (run asWritten q (begin start) calls)
     (all-calls q a start (begin start) calls quiet (record { old = record { at = λ j h. refl }; frame = refl; frames = refl; closed = refl }))
 
 -- the premise word for word, a frame arriving at most twice in its round, is the narrower one
-quiet-worded : (q : Request) (w : World) (calls : List Call) → AsWorded ours q w calls → AllQuiet ours q w calls
+quiet-worded : (q : Request) (w : World) (calls : List Call) → AsWorded asWritten q w calls → AllQuiet asWritten q w calls
 unfolding AllQuiet AsWorded
 quiet-worded q w [] h = tt
-quiet-worded q w (c ∷ calls) h = (h .0 .1, quiet-worded q (called ours q w c) calls (h .1))
+quiet-worded q w (c ∷ calls) h = (h .0 .1, quiet-worded q (called asWritten q w c) calls (h .1))
 
 -- DEMAND 3 word for word
-pub demand-3-as-worded : (q : Request) (start : Card) (calls : List Call) → askable q ≡ true → AsWorded ours q (begin start) calls → Demand3 q start (run ours q (begin start) calls)
+pub demand-3-as-worded : (q : Request) (start : Card) (calls : List Call) → askable q ≡ true → AsWorded asWritten q (begin start) calls → Demand3 q start (run asWritten q (begin start) calls)
 demand-3-as-worded q start calls e h = demand-3 q start calls e (quiet-worded q (begin start) calls h)

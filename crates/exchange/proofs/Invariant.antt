@@ -1,7 +1,7 @@
 -- What is so in each phase of the master, and that every call but a step and an arrival keeps it. Assumes nothing.
 use mathlib.Core.Path.{_≡_, sym, ap, _∙_}
-use mathlib.Core.Bool.{Bool, true, false}
-use mathlib.Core.List.{List, [], _∷_, _++_}
+use mathlib.Core.Bool.{Bool, true}
+use mathlib.Core.List.{List, [], _∷_}
 use mathlib.Core.Logic.{_⊎_}
 use mathlib.Core.Logic._⊎_.{inl, inr}
 use Prim.{Unit, tt}
@@ -17,7 +17,7 @@ use Rattle.master.specs.declared.Phase.{Phase}
 use Rattle.master.specs.declared.Phase.the-variants.{New, Changing, Acknowledging, Reading, EndedDone, EndedUnknown}
 use Rattle.master.specs.declared.Verdict.{Verdict}
 use Rattle.master.specs.declared.Verdict.the-variants.{Done, Unknown}
-use Rattle.exchange.specs.Line.{Line, World, changeRound, acknowledgeRound}
+use Rattle.exchange.specs.Line.{Line, World, changeRound, acknowledgeRound, interrogateRound}
 use Rattle.exchange.specs.Demand.{allLossless, due}
 use Rattle.exchange.proofs.Memory.{Range, Same, Ours, None, AskedOf, Mild}
 
@@ -87,7 +87,7 @@ pub record AtReading (q : Request) (start card : Card) (line : Line) : Type 0 wh
   pub range : Range q
   pub stand : Stand q start card
   pub frame : line .frame ≡ interrogateFrame q
-  pub frames : line .frames ≡ 3
+  pub frames : line .frames ≡ interrogateRound
   pub one : Bool
   pub two : Bool
   pub closed : line .closed ≡ two ∷ one ∷ []

@@ -6,7 +6,7 @@ use mathlib.Core.Logic.{_⊎_}
 use mathlib.Core.Logic._⊎_.{inl, inr}
 use Prim.Native.Nat.{ℕ, zero, suc, _+_, _-_, _*_, _%_, _/_, _≤_, _<_}
 use native.Mathlib.Omega.{arith}
-use borrow.Author.Tests.{leb-true, ltb-true, ltb-false, eqb-true, eqb-false, not-true}
+use borrow.Author.Tests.{leb-true, ltb-true, ltb-false, eqb-true, eqb-false}
 use lib.Bits.{bitAnd, bitOr}
 use lib.Dec.{leb, ltb, eqb}
 use lib.ListN.{length, getD, drop, set, replicate, length-set, List·getD-append}
@@ -14,11 +14,11 @@ use lib.Seq.{getD-drop, getD-append-add, getD-set-same, getD-set-other}
 use Rattle.wire.specs.Choose.{choose}
 use Rattle.wire.specs.Buffer.{put, overlay}
 use Rattle.wire.proofs.Cases.{by-choice}
-use Rattle.card.specs.Numbers.{cardUnfit, bufferShort, rangeUnknown, imageLength, imagePadding, done, answered}
-use Rattle.card.specs.Layout.{Card, channels, memorySize, kindAt, dataAt}
-use Rattle.card.specs.Tables.{memoryStart, memoryEnd, writableStart, inMemory, namesReadOnly, noChange, changeBits, addressOf, named, fit}
+use Rattle.card.specs.Numbers.{cardUnfit, bufferShort, rangeUnknown, imageLength, imagePadding, answered}
+use Rattle.card.specs.Layout.{Card, channels, kindAt}
+use Rattle.card.specs.Tables.{memoryStart, memoryEnd, writableStart, inMemory, namesReadOnly, noChange, addressOf, fit}
 use Rattle.card.specs.Probe.{faultCode}
-use Rattle.card.specs.Reply.{Reply, WordsReply, silent, sent, onWords, shell, guarded, roomLeast}
+use Rattle.card.specs.Reply.{Reply, silent, sent, shell, guarded, roomLeast}
 use Rattle.card.specs.Entries.{dropped, faulted, restarted, restart, withCode, setCode}
 use Rattle.card.proofs.Facts.{and-true, fit-facts}
 use Rattle.datalink.specs.Answer.{newByte, changed, appliedTo, applied, pended}

@@ -1,11 +1,11 @@
 -- What each of the master's frames asks of the unit at an I.A. Assumes nothing.
 use mathlib.Core.Path.{_≡_, refl, sym, ap, _∙_}
-use mathlib.Core.Bool.{Bool, true, false, _&&_, _||_, not}
+use mathlib.Core.Bool.{true, false, not}
 use mathlib.Core.List.{List, [], _∷_, _++_}
 use Prim.Native.Nat.{ℕ, _+_, _-_, _*_, _%_, _/_, _≤_}
 use native.Mathlib.Omega.{arith}
 use borrow.Author.Tests.{le-leb, eq-eqb, eqb-true}
-use lib.Dec.{leb, eqb}
+use lib.Dec.{eqb}
 use lib.ListN.{length, getD, take}
 use lib.Seq.{take-append-seam, getD-append-seam}
 use Rattle.wire.specs.Choose.{choose}
@@ -42,14 +42,16 @@ use Rattle.datalink.specs.Frame.{
   asked,
 }
 use Rattle.datalink.specs.declared.frame.Order.{Order}
-use Rattle.datalink.specs.declared.frame.Order.the-variants.{Refused, Interrogate, Change, Acknowledge}
+use Rattle.datalink.specs.declared.frame.Order.the-variants.{Interrogate, Change, Acknowledge}
 use Rattle.datalink.proofs.Responses.{framed-length}
-use Rattle.master.specs.Request.{Ask, Request, namedBy, namedMost, paired, addressMost}
+use Rattle.master.specs.Request.{Ask, Request, namedBy, namedMost, paired}
 use Rattle.master.specs.Request.Ask.{bytes, bits}
 use Rattle.master.specs.Accepted.{Accepted}
 use Rattle.master.specs.Frames.{pairs, dataOf, commandOf, body, changeFrame, acknowledgeFrame, interrogateFrame}
+use Rattle.exchange.specs.Demand.{writableRange}
+use Rattle.card.proofs.Facts.{and-true}
 use Rattle.master.proofs.Requests.{named-few}
-use Rattle.master.proofs.Frames.{pairs-length, data-few}
+use Rattle.master.proofs.Frames.{pairs-length}
 
 -- a frame with NUM, address and data
 
@@ -142,6 +144,13 @@ order-ask i ia at (bits masks states) unit few e =
 pub order-change : (i : ℕ) (q : Request) → Accepted q → asked i (changeFrame q) ≡ changeOrder i (q .ia) (q .address) (q .ask)
 unfolding changeFrame
 order-change i q a = order-ask i (q .ia) (q .address) (q .ask) (a .ia) (a .few) (a .pairs)
+
+-- a writable range is one to which the order gives neither 6 nor 8
+pub range-order : (q : Request) → Accepted q → writableRange q ≡ true → asked (q .ia) (changeFrame q) ≡ Change (kindFor (q .ask)) (length (dataOf (q .ask)))
+unfolding choose
+range-order q a e =
+    let p = and-true (inMemory (q .address) (namedBy (q .ask))) (not (namesReadOnly (q .address) (namedBy (q .ask)))) e in
+    order-change (q .ia) q a ∙ rw (eq-eqb (q .ia) (q .ia) refl, p .0, p .1)
 
 -- the interrogate
 pub order-interrogate : (i : ℕ) (q : Request) → Accepted q

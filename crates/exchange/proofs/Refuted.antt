@@ -3,16 +3,18 @@ use mathlib.Core.Path.{_≡_, refl}
 use mathlib.Core.Bool.{true}
 use mathlib.Core.List.{List, [], _∷_}
 use Prim.{tt}
-use Prim.Native.Nat.{ℕ, _+_, _≤_, _<_}
+use Prim.Native.Nat.{ℕ}
 use native.Mathlib.Omega.{arith}
 use lib.Dec.{leb, lit≤, lit<}
 use Rattle.wire.specs.Choose.{choose}
 use Rattle.card.specs.Numbers.{bufferShort, valueOutside, nothingPending, done}
-use Rattle.card.specs.Layout.{Card}
+use Rattle.card.specs.Layout.{Card, cardOf}
 use Rattle.card.specs.Entries.{restart, withCode}
 use Rattle.card.specs.Reply.{Reply, silent}
 use Rattle.datalink.specs.Frame.{framed, longest, asked}
-use Rattle.datalink.specs.Answer.{iaOf, applied, datalinkReply}
+use Rattle.datalink.specs.Answer.{iaOf, appliedTo, datalinkReply}
+use Rattle.datalink.specs.declared.frame.Order.{Order}
+use Rattle.datalink.specs.declared.frame.Order.the-variants.{Refused, Interrogate, Change, Acknowledge}
 use Rattle.master.specs.Request.{Request, askable}
 use Rattle.master.specs.Frames.{body, changeFrame, acknowledgeFrame, interrogateFrame, isEcho, confirms}
 use Rattle.master.specs.Step.{Move, sends, ends, refuses, stepOf}
@@ -23,8 +25,8 @@ use Rattle.exchange.specs.Calls.{Call, Entry, replyOf}
 use Rattle.exchange.specs.Calls.Choice.{none, answer}
 use Rattle.exchange.specs.Calls.Call.{Step, Arrival, Datalink, Other}
 use Rattle.exchange.specs.Calls.Entry.{SetCode, Governor, Lecom, Love, Lucid, WriteImage, ReadImage}
-use Rattle.exchange.specs.Line.{Build, begin, ours, run}
-use Rattle.exchange.specs.Premise.{writes, AsWorded}
+use Rattle.exchange.specs.Line.{Build, begin, asWritten, run}
+use Rattle.exchange.specs.Premise.{AsWorded}
 use Rattle.exchange.specs.Demand.{Writable, Named, Demand3}
 use Rattle.exchange.proofs.Computed.{computed, allows, allowed, fresh, stale, two}
 
@@ -49,12 +51,12 @@ first-named = record { low = lit≤ tt; high = lit< tt }
 -- without the premise
 
 -- another's change, accepted between echo and acknowledge
-another-change : Demand3 two fresh (run ours two (begin fresh) (alone ∷ arrives ∷ hears ∷ Datalink 38 (framed 0xA3 (body 1 0x1020 (7 ∷ []))) ∷ arrives ∷ [])) → ⊥
+another-change : Demand3 two fresh (run asWritten two (begin fresh) (alone ∷ arrives ∷ hears ∷ Datalink 38 (framed 0xA3 (body 1 0x1020 (7 ∷ []))) ∷ arrives ∷ [])) → ⊥
 unfolding computed
 another-change h = let e : _≡_ {A = ℕ} 7 255 = h .others 0x1020 free not-named in omega arith
 
 -- another's acknowledge, accepted before the first step, where a change is pending from before
-another-acknowledge : Demand3 two stale (run ours two (begin stale) (Datalink 38 (0x7E ∷ 0x83 ∷ []) ∷ [])) → ⊥
+another-acknowledge : Demand3 two stale (run asWritten two (begin stale) (Datalink 38 (0x7E ∷ 0x83 ∷ []) ∷ [])) → ⊥
 unfolding computed
 another-acknowledge h = let e : _≡_ {A = ℕ} 7 255 = h .others 0x1020 free not-named in omega arith
 
@@ -96,7 +98,7 @@ refute-always-unknown =
     let calls : List Call = alone ∷ arrives ∷ hears ∷ arrives ∷ alone ∷ arrives ∷ hears ∷ [] in
     record { request = two; accepted = refl; start = fresh; calls = calls; worded = allowed (masterOf alwaysUnknown) two (begin fresh) calls refl; broken = λ h. said (h .third refl refl refl) }
 
--- one that gives up after an exact echo: the customer's clauses do not catch it, `steady` does
+-- one that gives up after an exact echo: the customer's clauses do not catch it, since it never closes a third round; `steady` does
 unfoldable givesUp : Request → Phase → List ℕ → Move
 givesUp q New got = sends (changeFrame q) Changing
 givesUp q Changing got = ends EndedUnknown
@@ -178,14 +180,19 @@ refute-moves-when-refused =
 
 -- wrong cards, with the right master
 
--- one that applies a change at its echo: the customer's clauses do not catch it, `untouched` does
+-- one that applies a change at its echo, and once more at the acknowledge: the customer's clauses do not catch it, since asking twice is asking once; `untouched` does
+unfoldable eagerly : Order → Reply → Reply
+eagerly (Refused number) r = r
+eagerly (Interrogate at n) r = r
+eagerly (Change kind num) r =
+    record { number = r .number; bytes = r .bytes; card = cardOf (r .card .words) (appliedTo (r .card .memory) (r .card .pending)) (r .card .pending) }
+eagerly Acknowledge r = r
+
 unfoldable eager : Card → ℕ → List ℕ → Reply
-eager card room f =
-    let r = datalinkReply card room f in
-    record { number = r .number; bytes = r .bytes; card = choose (writes (asked (iaOf card) f)) (applied (r .card)) (r .card) }
+eager card room f = eagerly (asked (iaOf card) f) (datalinkReply card room f)
 
 refute-eager : Refuted (record { step = stepOf; datalink = eager; restart = restart; entry = replyOf })
-unfolding computed allows eager
+unfolding computed allows eagerly eager
 refute-eager =
     let b : Build = record { step = stepOf; datalink = eager; restart = restart; entry = replyOf } in
     let calls : List Call = alone ∷ arrives ∷ [] in

@@ -3,8 +3,13 @@ use mathlib.Core.Path.{_≡_, refl}
 use mathlib.Core.Bool.{true}
 use mathlib.Core.List.{List, [], _∷_, _++_}
 use Prim.Native.Nat.{ℕ}
-use lib.ListN.{replicate}
+use lib.ListN.{set}
+use Rattle.bits.specs.Bits.{bit, field, withBit, putBit, putField}
+use Rattle.bits.specs.Fields.{widthOf, fields, putFields}
 use Rattle.card.specs.Layout.{Card}
+use Rattle.image.specs.Form.{run as entries, savedForm, widths, used}
+use Rattle.image.specs.Saved.{fieldOf, wordOf, values, replaced, imageOf, entriesOf, paddingOf, restored}
+use Rattle.image.specs.Entries.{readImage}
 use Rattle.master.specs.Request.{Request, askable}
 use Rattle.master.specs.Request.Ask.{bytes, bits}
 use Rattle.master.specs.Frames.{changeFrame, acknowledgeFrame}
@@ -14,17 +19,17 @@ use Rattle.master.specs.declared.Verdict.the-variants.{Open, Done, Unknown}
 use Rattle.exchange.specs.Calls.{Call}
 use Rattle.exchange.specs.Calls.Choice.{none, answer}
 use Rattle.exchange.specs.Calls.Call.{Step, Arrival, Restart, Datalink, Other}
-use Rattle.exchange.specs.Calls.Entry.{SetCode, Lecom}
-use Rattle.exchange.specs.Line.{begin, ours, run}
+use Rattle.exchange.specs.Calls.Entry.{SetCode, ReadImage}
+use Rattle.exchange.specs.Line.{begin, asWritten, run}
 use Rattle.exchange.specs.Demand.{byteAt}
 use Rattle.exchange.proofs.Computed.{computed, allows, fresh, stale, cardWith, two}
 
 -- after these calls, which the premise allows, the master says this and the byte at an address is this
 pub record Runs (q : Request) (start : Card) (calls : List Call) (says : Verdict) (address byte : ℕ) : Type 0 where
   pub asked : askable q ≡ true
-  pub allowed : allows ours q (begin start) calls ≡ true
-  pub said : saysOf (run ours q (begin start) calls .phase) ≡ says
-  pub held : byteAt (run ours q (begin start) calls .card) address ≡ byte
+  pub allowed : allows asWritten q (begin start) calls ≡ true
+  pub said : saysOf (run asWritten q (begin start) calls .phase) ≡ says
+  pub held : byteAt (run asWritten q (begin start) calls .card) address ≡ byte
 
 -- a step that gets an answer, one that gets none, an arrival
 abbrev hears : Call
@@ -120,3 +125,12 @@ unfit-tables = record { asked = refl; allowed = refl; said = refl; held = refl }
 others-between : Runs two fresh (alone ∷ arrives ∷ Other (SetCode 0 90) ∷ hears ∷ Other (SetCode 4 90) ∷ arrives ∷ alone ∷ arrives ∷ hears ∷ []) Done 0x1000 90
 unfolding computed allows
 others-between = record { asked = refl; allowed = refl; said = refl; held = refl }
+
+-- an image read between the rounds gives the card I.A. 4, so that the acknowledge is foreign, and another gives it back
+
+abbrev imageWith : ℕ → List ℕ
+imageWith ia = imageOf (set (fresh .words) 0 ia)
+
+image-between : Runs two fresh (alone ∷ arrives ∷ hears ∷ Other (ReadImage (imageWith 4)) ∷ arrives ∷ Other (ReadImage (imageWith 3)) ∷ arrives ∷ alone ∷ arrives ∷ hears ∷ []) Done 0x1010 8
+unfolding computed allows bit field withBit putBit putField widthOf fields putFields entries savedForm widths used fieldOf wordOf values replaced imageOf entriesOf paddingOf restored readImage
+image-between = record { asked = refl; allowed = refl; said = refl; held = refl }

@@ -5,7 +5,7 @@ use mathlib.Core.List.{List, [], _∷_}
 use mathlib.Core.Logic.{_⊎_}
 use mathlib.Core.Logic._⊎_.{inl, inr}
 use Prim.{Unit, tt}
-use Prim.Native.Nat.{ℕ, zero, suc, _+_, _-_, _≤_, _<_}
+use Prim.Native.Nat.{ℕ, zero, suc, _+_, _-_, _<_}
 use native.Mathlib.Omega.{arith}
 use lib.Dec.{leb, ltb, eqb}
 use lib.ListN.{length, getD}
@@ -17,20 +17,19 @@ use Rattle.card.proofs.Facts.{and-true}
 use Rattle.datalink.specs.Frame.{framed, longest}
 use Rattle.datalink.specs.Answer.{response}
 use Rattle.master.specs.Request.{Request, namedBy, asAsked, askable}
-use Rattle.master.specs.Frames.{body, changeFrame, acknowledgeFrame, interrogateFrame, same, echo, isEcho, shownIn, isResponse, allAsked, confirms}
+use Rattle.master.specs.Frames.{body, acknowledgeFrame, same, echo, isEcho, shownIn, isResponse, allAsked, confirms}
 use Rattle.master.specs.Step.{Move, sends, ends, refuses, move, stepOf}
 use Rattle.master.specs.declared.Phase.{Phase}
 use Rattle.master.specs.declared.Phase.the-variants.{New, Changing, Acknowledging, Reading, EndedDone, EndedUnknown}
-use Rattle.master.specs.declared.Verdict.{Verdict}
 use Rattle.master.specs.declared.Verdict.the-variants.{Done, Unknown}
 use Rattle.master.proofs.Frames.{same-self, asked-all, all-asked, shown-response}
 use Rattle.master.proofs.Forced.{asked-again}
 use Rattle.exchange.specs.Calls.{Choice}
 use Rattle.exchange.specs.Calls.Choice.{none, answer}
-use Rattle.exchange.specs.Line.{Line, nth, heard, isAnswer, lossless, closing, afterStep, changeRound}
+use Rattle.exchange.specs.Line.{Line, nth, heard, isAnswer, lossless, closing, afterStep, changeRound, acknowledgeRound, interrogateRound}
 use Rattle.exchange.specs.Demand.{allLossless, due}
-use Rattle.exchange.proofs.Memory.{Range, Same, AskedOf}
-use Rattle.exchange.proofs.Invariant.{Every, EchoHeard, Shows, Before, After, Stand, AtNew, AtChanging, AtAcknowledging, AtReading, Asked, AllNamed, Settled, AtEnd, InvAt, named-high}
+use Rattle.exchange.proofs.Memory.{Range, AskedOf}
+use Rattle.exchange.proofs.Invariant.{Every, EchoHeard, Shows, Stand, AtChanging, AtReading, AllNamed, Settled, InvAt, named-high}
 
 never : {A : Type 0} → _≡_ {A = Bool} false true → A
 never e = let z : _≡_ {A = ℕ} 0 1 = cc in let y : ⊥ = omega arith in absurd y
@@ -62,11 +61,11 @@ unfolding closing choose
 closing-none line got f e = rw (f, e)
 
 -- a round whose closing step gets no answer is not lossless
-unheard : {A : Type 0} (line : Line) (got : List ℕ) (n : ℕ) (rounds : List Bool) → line .frames ≡ n → eqb n 2 ≡ false → got ≡ [] → allLossless (lossless line got ∷ rounds) ≡ true → A
+unheard : {A : Type 0} (line : Line) (got : List ℕ) (n : ℕ) (rounds : List Bool) → line .frames ≡ n → eqb n acknowledgeRound ≡ false → got ≡ [] → allLossless (lossless line got ∷ rounds) ≡ true → A
 unheard line got n rounds f other e all =
-    let lost : (eqb (line .frames) 2 || isAnswer got) ≡ false = rw (f, other, e) in
+    let lost : (eqb (line .frames) acknowledgeRound || isAnswer got) ≡ false = rw (f, other, e) in
     let one = and-true (lossless line got) (allLossless rounds) all .0 in
-    never (sym lost ∙ and-true (line .reached) (eqb (line .frames) 2 || isAnswer got) one .1)
+    never (sym lost ∙ and-true (line .reached) (eqb (line .frames) acknowledgeRound || isAnswer got) one .1)
 
 no-echo : (q : Request) (got : List ℕ) → got ≡ [] → isEcho q got ≡ false
 unfolding isEcho echo response framed same
@@ -159,11 +158,11 @@ module _ (q : Request) (start card : Card) where
           settled = settle (v .range) (v .stand);
           frame = refl;
           sure = λ _. confirm (v .range) (v .stand) (good-read got s e);
-          rounds = λ _. sym (ap due (closing-at line got 3 (v .two ∷ v .one ∷ []) (v .frames) (v .closed) refl));
+          rounds = λ _. sym (ap due (closing-at line got interrogateRound (v .two ∷ v .one ∷ []) (v .frames) (v .closed) refl));
           early = λ h. let z : ⊥ = omega (arith, v .frames) in absurd z;
         }
     by-read-back false e i v =
-        let closes = closing-at line got 3 (v .two ∷ v .one ∷ []) (v .frames) (v .closed) refl in
+        let closes = closing-at line got interrogateRound (v .two ∷ v .one ∷ []) (v .frames) (v .closed) refl in
         record {
           settled = settle (v .range) (v .stand);
           frame = refl;
@@ -173,7 +172,7 @@ module _ (q : Request) (start card : Card) where
         }
       where
         lost : Got (Shows q card) got → allLossless (lossless line got ∷ v .two ∷ v .one ∷ []) ≡ true → Unknown ≡ due (closing line got)
-        lost (inl n) g = unheard line got 3 (v .two ∷ v .one ∷ []) (v .frames) refl n g
+        lost (inl n) g = unheard line got interrogateRound (v .two ∷ v .one ∷ []) (v .frames) refl n g
         lost (inr s) g =
             let rest = and-true (lossless line got) (allLossless (v .two ∷ v .one ∷ [])) g .1 in
             let f = v .carried (and-true (v .two) (allLossless (v .one ∷ [])) rest .0) in
@@ -191,8 +190,8 @@ module _ (q : Request) (start card : Card) where
           frames = ap suc (v .frames);
           one = v .one;
           two = lossless line got;
-          closed = closing-at line got 2 (v .one ∷ []) (v .frames) (v .closed) refl;
-          carried = λ u. v .carried (and-true (line .reached) (eqb (line .frames) 2 || isAnswer got) u .0);
+          closed = closing-at line got acknowledgeRound (v .one ∷ []) (v .frames) (v .closed) refl;
+          carried = λ u. v .carried (and-true (line .reached) (eqb (line .frames) acknowledgeRound || isAnswer got) u .0);
           heard = tt;
         }
     moving Reading i v = by-read-back (confirms q got) refl i v

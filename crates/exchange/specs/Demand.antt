@@ -13,7 +13,7 @@ use Rattle.master.specs.Request.{Request, namedBy, asAsked}
 use Rattle.master.specs.Step.{saysOf}
 use Rattle.master.specs.declared.Verdict.{Verdict}
 use Rattle.master.specs.declared.Verdict.the-variants.{Open, Done}
-use Rattle.exchange.specs.Line.{World, changeRound}
+use Rattle.exchange.specs.Line.{World, changeRound, interrogateRound}
 
 -- the byte at an address of Datalink memory
 abbrev pub byteAt : Card → ℕ → ℕ
@@ -48,7 +48,7 @@ allLossless (l ∷ rounds) = l && allLossless rounds
 
 -- what the master says where nothing was lost: nothing yet, and done once the third round is closed
 abbrev pub due : List Bool → Verdict
-due rounds = choose (leb 3 (length rounds)) Done Open
+due rounds = choose (leb interrogateRound (length rounds)) Done Open
 
 -- the claim, about a world that a list of calls led to
 pub record Demand3 (q : Request) (start : Card) (w : World) : Type 0 where

@@ -26,7 +26,7 @@ refused number = leb foreignAddress number
 pub record Line : Type 0 where
   -- the frame last sent; none is [], before the first one and after the end
   pub frame : List ℕ
-  -- how many frames were sent: the first is the change, the second the acknowledge, the third the interrogate
+  -- how many frames were sent
   pub frames : ℕ
   -- the answers that its arrivals in this round got with 0, the last first
   pub answers : List (List ℕ)
@@ -39,11 +39,15 @@ pub record Line : Type 0 where
   -- a restart fell between the first arrivals of change and acknowledge
   pub between : Bool
 
+-- the rounds by their frames' number; the interrogate's is the last
 abbrev pub changeRound : ℕ
 changeRound = 1
 
 abbrev pub acknowledgeRound : ℕ
 acknowledgeRound = 2
+
+abbrev pub interrogateRound : ℕ
+interrogateRound = 3
 
 -- "with none or one of the answers that this frame's arrivals in the round got with 0": [] is none
 abbrev pub nth : List (List ℕ) → ℕ → List ℕ
@@ -133,9 +137,9 @@ pub record Build : Type 0 where
   pub restart : Card → Reply
   pub entry : Card → Entry → Reply
 
--- ours: the written meanings, which the entries' contracts equate with the code
-abbrev pub ours : Build
-ours = record { step = stepOf; datalink = datalinkReply; restart = restart; entry = replyOf }
+-- the written meanings, which the entries' contracts equate with the code
+abbrev pub asWritten : Build
+asWritten = record { step = stepOf; datalink = datalinkReply; restart = restart; entry = replyOf }
 
 -- "Each step gets that request and the master's state as the last step returned it, each call of the card the tables as the last one left them"
 unfoldable pub called : Build → Request → World → Call → World
