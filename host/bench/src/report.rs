@@ -108,7 +108,7 @@ pub fn worst(counted: &[Counted], frames: &Frames, touched: &HashMap<Entry, usiz
             .flat_map(|counted| counted.cases().map(|(case, cost)| (counted.group, case, cost)));
         let own = calls.filter(|(_, case, _)| case.request.entry == entry);
         let (group, case, cost) = own
-            .max_by_key(|(_, _, cost)| cost.archive)
+            .min_by_key(|(_, _, cost)| Reverse(cost.archive))
             .expect("every entry is called");
         println!(
             "| `{}` | {} | {}: {} | {} | {} |",
