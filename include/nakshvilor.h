@@ -1,7 +1,7 @@
 /* Nakshvilor: the proved protocol core of the cooling card.
  *
- * Link with libfirmware.a (`rt staticlib firmware` writes target/staticlib/libfirmware.a). The archive needs no C library,
- * allocates nothing, keeps no state of its own and calls nothing back.
+ * Link with libfirmware.a (`rt staticlib firmware` writes target/staticlib/libfirmware.a). The archive asks
+ * for memcpy alone, allocates nothing, keeps no state of its own and calls nothing back.
  *
  * TABLES. The firmware owns three tables and lends them to every call. Each is a pointer and a count of ELEMENTS. A table
  * of any other length than below, zero too, gets NK_CARD_UNFIT and is not touched. A null pointer with count 0 is allowed.

@@ -306,14 +306,17 @@ fn keep(bed: &mut Bed, reply: Reply) {
     bed.len = reply.length;
 }
 
-/// Makes a call on both sides of a bed and panics unless they agree in number, length, answer and tables.
+/// What a call gives, from empty buffers: number, length, the whole answer buffer, degrees.
+fn given(side: Side, bed: &mut Bed, request: &Request) -> (u8, usize, Vec<u8>, f32) {
+    (bed.len, bed.degrees) = (0, 0.0);
+    bed.answer.fill(0);
+    thunk(side, request.entry)(bed, request);
+    (bed.number, bed.len, bed.answer.clone(), bed.degrees)
+}
+
+/// Makes a call on both sides of a bed and panics unless they agree in all they give and in their tables.
 pub fn agree(bed: &mut Bed, request: &Request, name: &str) {
-    thunk(Side::Second, request.entry)(bed, request);
-    let second = (bed.number, bed.len, bed.answer.clone(), bed.degrees);
-    bed.answer.fill(0);
-    thunk(Side::Archive, request.entry)(bed, request);
-    let archive = (bed.number, bed.len, bed.answer.clone(), bed.degrees);
-    bed.answer.fill(0);
+    let (archive, second) = (given(Side::Archive, bed, request), given(Side::Second, bed, request));
     assert!(
         archive == second,
         "{name}: the library gives {archive:?}, the second program {second:?}"

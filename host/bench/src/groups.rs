@@ -1,10 +1,10 @@
 //! The calls that are measured: what goes over each line, the entries without one, and sweeps over all lengths.
 
 use reference::card::{Card, REGISTERS};
-use reference::image::{save, IMAGE};
+use reference::image::IMAGE;
 
 use crate::archive::{BITS, BYTES};
-use crate::calls::{Ask, Bed, Entry, Request};
+use crate::calls::{thunk, Ask, Bed, Entry, Request, Side};
 use crate::frames::{
     change, datalink, interrogate, lecom_read, lecom_write, love, lucid, ACKNOWLEDGE, CHANGE, CHANGE_BITS,
     FOREIGN_INTERROGATE, FOREIGN_RESPONSE, RESPONSE,
@@ -16,30 +16,57 @@ pub struct Case {
     pub request: Request,
 }
 
-/// Calls that are made one after the other, from the busy card on.
+/// The card that a group's calls start from.
+#[derive(Clone, Copy, PartialEq, Eq)]
+pub enum Start {
+    /// The busy card.
+    Busy,
+    /// The busy card with the longest pending change.
+    Pending,
+    /// The busy card, of which the library gets no words at all, so that it refuses at once.
+    Wordless,
+}
+
+/// Calls that are made one after the other on one card.
 pub struct Group {
     pub name: &'static str,
+    pub start: Start,
     pub cases: Vec<Case>,
-    /// The library gets no words at all, so that it refuses at once.
-    pub wordless: bool,
 }
 
 impl Group {
     fn new(name: &'static str, cases: Vec<Case>) -> Self {
         Self {
             name,
+            start: Start::Busy,
             cases,
-            wordless: false,
         }
     }
 
-    /// The card that the calls start from.
+    fn from(self, start: Start) -> Self {
+        Self { start, ..self }
+    }
+
+    /// The card that the calls start from, on both sides.
     pub fn bed(&self) -> Bed {
         let mut bed = Bed::new(busy_card());
-        if self.wordless {
-            bed.tables.words.clear();
+        match self.start {
+            Start::Busy => {}
+            Start::Pending => {
+                let change = case("", Entry::Datalink, change(CHANGE_BITS, 0x1101, 32)).request;
+                make(&mut bed, &change);
+            }
+            Start::Wordless => bed.tables.words.clear(),
         }
         bed
+    }
+}
+
+/// Makes a call on both sides. The second program is called through the measured thunks alone: another place that calls
+/// it would change how it is compiled.
+fn make(bed: &mut Bed, request: &Request) {
+    for side in [Side::Archive, Side::Second] {
+        thunk(side, request.entry)(bed, request);
     }
 }
 
@@ -55,33 +82,34 @@ pub struct Plan {
     pub others: Group,
     /// Refused just after fitness: the governor's channel is the cheapest test that comes next.
     pub fitness: Group,
-    /// The same call refused before fitness, by a table's length.
-    pub unlent: Group,
-    /// Commands over all their lengths and values.
+    /// The same with a pending change to look at.
+    pub fitness_pending: Group,
+    /// The same refused before fitness, by a table's length.
+    pub unfit: Group,
+    /// Commands over their lengths and values, and the other entries, from a card with a pending change.
     pub sweeps: Vec<Group>,
 }
 
 impl Plan {
     pub fn new() -> Self {
-        let channel_4 = || vec![probe("governor of channel 4", Entry::Governor, 4, 0)];
+        let channel_4 = |name| Group::new(name, vec![probe("governor of channel 4", Entry::Governor, 4, 0)]);
+        let pending = |group: Group| group.from(Start::Pending);
         Self {
             dialects: dialects(),
             mix: mix(),
             master: exchanges("line master", &[2, 9, 32], &[1, 16]),
             others: others(),
-            fitness: Group::new("fitness", channel_4()),
-            unlent: Group {
-                name: "no words",
-                cases: channel_4(),
-                wordless: true,
-            },
-            sweeps: sweeps(),
+            fitness: channel_4("fitness"),
+            fitness_pending: channel_4("fitness with a pending change").from(Start::Pending),
+            unfit: channel_4("no words").from(Start::Wordless),
+            sweeps: sweeps().into_iter().map(pending).collect(),
         }
     }
 
     /// All groups; their order is the same in every run.
     pub fn groups(&self) -> Vec<&Group> {
-        let single = [&self.mix, &self.master, &self.others, &self.fitness, &self.unlent];
+        let fitness = [&self.fitness, &self.fitness_pending, &self.unfit];
+        let single = [&self.mix, &self.master, &self.others].into_iter().chain(fitness);
         self.dialects.iter().chain(single).chain(&self.sweeps).collect()
     }
 }
@@ -249,8 +277,9 @@ fn mix() -> Group {
 }
 
 fn others() -> Group {
-    let mut image = vec![0; IMAGE];
-    save(&busy_card(), &mut image);
+    let mut bed = Bed::new(busy_card());
+    make(&mut bed, &case("", Entry::WriteImage, Vec::new()).request);
+    let image = bed.answer[..IMAGE].to_vec();
     Group::new(
         "other entries",
         vec![
@@ -332,6 +361,7 @@ fn sweeps() -> Vec<Group> {
             lucid(0x42, 0x0F, 0x10, &vec![1; count])
         }),
         probes(),
+        others(),
         exchanges(
             "line master",
             &(0..=32).collect::<Vec<u8>>(),

@@ -12,7 +12,7 @@ mod time;
 use std::path::Path;
 use std::process::ExitCode;
 
-use groups::Plan;
+use groups::{Group, Plan, Start};
 
 const USAGE: &str = "bench agree | count | report DUMPS DISASSEMBLY | calls DUMPS (host/bench/run does all)";
 
@@ -36,7 +36,8 @@ fn main() -> ExitCode {
 /// Both sides give the same on every call that is measured.
 fn agree(plan: &Plan) {
     let mut count = 0;
-    for group in plan.groups().into_iter().filter(|group| !group.wordless) {
+    let both = |group: &&Group| group.start != Start::Wordless;
+    for group in plan.groups().into_iter().filter(both) {
         let mut bed = group.bed();
         for case in &group.cases {
             calls::agree(&mut bed, &case.request, &format!("{}: {}", group.name, case.name));

@@ -78,23 +78,28 @@ fn print_mean(name: &str, count: usize, total: Cost, met: &str) {
 
 /// Fitness alone.
 pub fn fitness(plan: &Plan, counted: &[Counted]) {
-    let whole = named(counted, &plan.fitness).costs[0];
-    let unlent = named(counted, &plan.unlent).costs[0];
-    let met = if whole.archive < FITNESS_AIM { "met" } else { "missed" };
+    let cost = |group| named(counted, group).costs[0];
+    let unfit = cost(&plan.unfit).archive;
     println!("\n## Fitness alone\n");
-    println!("| Call | Library | Second program | Ratio | Aim {FITNESS_AIM} |");
-    println!("|---|---|---|---|---|");
     println!(
-        "| refused just after fitness (governor of channel 4) | {} | {} | {:.3} | {met} |",
-        whole.archive,
-        whole.second,
-        quotient(whole)
+        "| Governor of channel 4 | Library | Second program | Ratio | Library, fitness itself | Aim: {FITNESS_AIM} |"
     );
-    println!(
-        "| the same, refused before it (no words lent) | {} | – | | |",
-        unlent.archive
-    );
-    println!("| fitness itself | {} | | | |", whole.archive - unlent.archive);
+    println!("|---|---|---|---|---|---|");
+    for (name, group) in [
+        ("nothing pending", &plan.fitness),
+        ("a change pending", &plan.fitness_pending),
+    ] {
+        let whole = cost(group);
+        let met = if whole.archive < FITNESS_AIM { "met" } else { "missed" };
+        println!(
+            "| {name} | {} | {} | {:.3} | {} | {met} |",
+            whole.archive,
+            whole.second,
+            quotient(whole),
+            whole.archive - unfit
+        );
+    }
+    println!("| refused before fitness, by a table's length | {unfit} | | | | |");
 }
 
 /// The dearest call of each entry and its stack.
@@ -108,7 +113,7 @@ pub fn worst(counted: &[Counted], frames: &Frames, touched: &HashMap<Entry, usiz
             .flat_map(|counted| counted.cases().map(|(case, cost)| (counted.group, case, cost)));
         let own = calls.filter(|(_, case, _)| case.request.entry == entry);
         let (group, case, cost) = own
-            .max_by_key(|(_, _, cost)| cost.archive)
+            .min_by_key(|(_, _, cost)| Reverse(cost.archive))
             .expect("every entry is called");
         println!(
             "| `{}` | {} | {}: {} | {} | {} |",
