@@ -4,7 +4,7 @@ use mathlib.Core.Path.{_≡_}
 use mathlib.Core.List.{List}
 use lib.ListN.{length}
 use Rattle.card.specs.Layout.{wordCount, memorySize, pendingSize}
-use Rattle.terminal.specs.Lent.{lineMost, answerMost}
+use Rattle.lines.specs.Lent.{lineMost, answerMost}
 
 pub record Lent (words memory pending asked text out : List ℕ) : Type 0 where
   pub words-length : length words ≡ wordCount

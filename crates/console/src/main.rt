@@ -4,16 +4,16 @@ use card::layout::PENDING;
 use card::layout::WORDS;
 use libc::STDIN_FILENO;
 use libc::STDOUT_FILENO;
-use terminal::ANSWER_MOST;
-use terminal::LINE_FEED;
-use terminal::LINE_MOST;
+use lines::ANSWER_MOST;
+use lines::LINE_FEED;
+use lines::LINE_MOST;
+use tables::start;
 use terminal::exchange;
 use terminal::exchange::Exchange;
-use terminal::start;
 ghost use mathlib.Core.Path.{_≡_};
 ghost use Prim.Native.Nat.{_<_};
 ghost use lib.ListN.{length};
-ghost use Rattle.terminal.specs.Lent.{Held};
+ghost use Rattle.terminal.specs.Held.{Held};
 ghost use Rattle.console.specs.Lent.{Lent};
 
 // Where the console stands: whether it goes on, how long the line is that has come so far, and the line master's exchange.

@@ -18,7 +18,7 @@ use Rattle.master.specs.Step.{Move, Stepped}
 use Rattle.card.specs.declared.governor.Governor.{Governor}
 use Rattle.card.specs.declared.governor.Governor.the-variants.{Degrees}
 use Rattle.card.specs.Governor.{degreesOf, toldOf, governorOf}
-use Rattle.terminal.specs.Text.{isReal}
+use Rattle.lines.specs.Text.{isReal}
 
 -- an entry's answer is in the buffer
 pub answer-fits : {reply : Reply} {out words memory pending out′ : List ℕ} {number len : ℕ} → Gave reply out number len words memory pending out′ → len ≤ length out′

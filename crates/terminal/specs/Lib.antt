@@ -1,4 +1,1 @@
-pub mod Lent
-pub mod Text
-pub mod Entries
-pub mod Start
+pub mod Held

@@ -1,17 +1,17 @@
 // The calls: each reads its words from at on, calls its entry and writes the answer line. It gives the line's length, or UNREAD,
 // with nothing changed, where the words do not fit.
-use crate::BYTES_MOST;
-use crate::ROOM_MOST;
-use crate::UNREAD;
-use crate::line;
-use crate::tables;
-use crate::text;
 use card::Outcome;
 use card::entries;
 use card::governor;
+use lines::BYTES_MOST;
+use lines::ROOM_MOST;
+use lines::UNREAD;
+use lines::line;
+use lines::text;
 ghost use Prim.Native.Nat.{_≤_, _<_};
 ghost use lib.ListN.{length};
-ghost use Rattle.terminal.specs.Lent.{answerMost, roomMost, listMost, Asked, Tables};
+ghost use Rattle.lines.specs.Lent.{answerMost, roomMost, listMost, Asked};
+ghost use Rattle.tables.specs.Entries.{Tables};
 
 // The calls by their number in the list of `reply`.
 const PROBE: usize = 0;

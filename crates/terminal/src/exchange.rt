@@ -1,15 +1,16 @@
 // The line master that the console keeps: request and step.
-use crate::BYTES_MOST;
-use crate::ROOM_MOST;
-use crate::UNREAD;
-use crate::line;
-use crate::text;
+use lines::BYTES_MOST;
+use lines::ROOM_MOST;
+use lines::UNREAD;
+use lines::line;
+use lines::text;
 use master::Phase;
 use master::request::Kind;
 ghost use mathlib.Core.Path.{_≡_};
 ghost use Prim.Native.Nat.{_≤_, _<_};
 ghost use lib.ListN.{length};
-ghost use Rattle.terminal.specs.Lent.{lineMost, bytesMost, answerMost, roomMost, Asked, Held, Answered};
+ghost use Rattle.lines.specs.Lent.{lineMost, bytesMost, answerMost, roomMost, Asked};
+ghost use Rattle.terminal.specs.Held.{Held, Answered};
 
 // A request and how far its exchange went. The bytes asked for, or the masks, stand at the front of a lent buffer, states from its middle on.
 pub struct Exchange {

@@ -1,34 +1,20 @@
 // The console's lines, without its input and output: what a line asks, the call and the line that answers it. docs/CONSOLE.md.
 pub mod calls;
 pub mod exchange;
-pub mod line;
-pub mod start;
-pub mod tables;
-pub mod text;
 
 use exchange::Answer;
 use exchange::Exchange;
+use lines::LINE_FEED;
+use lines::LINE_MOST;
+use lines::UNREAD;
+use lines::line;
+use lines::text;
 ghost use mathlib.Core.Path.{_≡_};
 ghost use Prim.Native.Nat.{_+_, _≤_, _<_};
 ghost use lib.ListN.{length};
-ghost use Rattle.terminal.specs.Lent.{lineMost, answerMost, listMost, Asked, Tables, Held, Answered};
-
-// The longest line, without its line feed.
-pub const LINE_MOST: usize = 32_768;
-
-// No line names more bytes.
-pub const BYTES_MOST: usize = LINE_MOST / 2;
-
-// The longest answer buffer that a line can ask for.
-pub const ROOM_MOST: usize = 1_024;
-
-// The buffer of the answer line: peek memory fills most of it.
-pub const ANSWER_MOST: usize = 65_536;
-
-// The length of no answer: the words after a known first word do not fit.
-pub const UNREAD: usize = 0;
-
-pub const LINE_FEED: u8 = b'\n';
+ghost use Rattle.lines.specs.Lent.{lineMost, answerMost, listMost, Asked};
+ghost use Rattle.tables.specs.Entries.{Tables};
+ghost use Rattle.terminal.specs.Held.{Held, Answered};
 
 // A line that starts with this is a note.
 const NOTE: u8 = b'#';

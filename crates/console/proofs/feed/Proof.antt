@@ -1,7 +1,7 @@
 use lib.ListN.{length}
 use Prim.Native.Nat.{_≤_, _-_}
 use borrow.Author.Needs.{needs}
-use Rattle.terminal.specs.Lent.{Held}
+use Rattle.terminal.specs.Held.{Held}
 use Rattle.console.specs.Lent.{Lent}
 use Rattle.console.proofs.feed.Statement.{statement}
 use Rattle.console.proofs.feed.Tie as tie

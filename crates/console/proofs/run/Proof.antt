@@ -1,5 +1,5 @@
 use borrow.Author.Needs.{needs}
-use Rattle.terminal.specs.Lent.{Held}
+use Rattle.terminal.specs.Held.{Held}
 use Rattle.console.specs.Lent.{Lent}
 use Rattle.console.proofs.run.Statement.{statement}
 use Rattle.console.proofs.run.Tie as tie

@@ -4,7 +4,7 @@ use Rattle.terminal.proofs.answer.Statement.{statement}
 use Rattle.terminal.proofs.answer.Tie as tie
 use Rattle.terminal.proofs.answer.Reads as reads
 use Rattle.terminal.proofs.answer.Lts as lts
-use Rattle.terminal.proofs.line.next_word.Reads as next-word-reads
+use Rattle.lines.proofs.line.next_word.Reads as next-word-reads
 use Rattle.terminal.proofs.reply.Reads as reply-reads
 
 -- src/lib.rt:137:9

@@ -8,7 +8,7 @@ use Rattle.terminal.proofs.finish.Tie as tie
 use Rattle.terminal.proofs.finish.Reads as reads
 use Rattle.terminal.proofs.finish.Lts as lts
 use Rattle.terminal.proofs.answer.Reads as answer-reads
-use Rattle.terminal.proofs.text.put_words.Reads as put-words-reads
+use Rattle.lines.proofs.text.put_words.Reads as put-words-reads
 
 -- src/lib.rt:186:43
 slice-aggregate-put-words : tie.Need-slice-aggregate-put-words

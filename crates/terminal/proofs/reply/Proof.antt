@@ -4,9 +4,9 @@ use Rattle.terminal.proofs.reply.Tie as tie
 use Rattle.terminal.proofs.reply.Reads as reads
 use Rattle.terminal.proofs.reply.Lts as lts
 use Rattle.terminal.proofs.expected.Reads as expected-reads
-use Rattle.terminal.proofs.line.read_name.Reads as read-name-reads
+use Rattle.lines.proofs.line.read_name.Reads as read-name-reads
 use Rattle.terminal.proofs.run.Reads as run-reads
-use Rattle.terminal.proofs.text.put_words.Reads as put-words-reads
+use Rattle.lines.proofs.text.put_words.Reads as put-words-reads
 
 -- src/lib.rt:108:9
 slice-aggregate-list : tie.Need-slice-aggregate-list

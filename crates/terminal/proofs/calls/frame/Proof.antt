@@ -6,8 +6,8 @@ use Rattle.terminal.proofs.calls.frame.Tie as tie
 use Rattle.terminal.proofs.calls.frame.Reads as reads
 use Rattle.terminal.proofs.calls.frame.Lts as lts
 use Rattle.terminal.proofs.calls.give.Reads as give-reads
-use Rattle.terminal.proofs.line.read_bytes.Reads as read-bytes-reads
-use Rattle.terminal.proofs.line.read_number.Reads as read-number-reads
+use Rattle.lines.proofs.line.read_bytes.Reads as read-bytes-reads
+use Rattle.lines.proofs.line.read_number.Reads as read-number-reads
 
 -- src/calls.rt:161:41
 cast-read-number : tie.Need-cast-read-number

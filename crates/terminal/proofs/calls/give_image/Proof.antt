@@ -5,7 +5,7 @@ use Rattle.terminal.proofs.calls.give_image.Tie as tie
 use Rattle.terminal.proofs.calls.give_image.Reads as reads
 use Rattle.terminal.proofs.calls.give_image.Lts as lts
 use Rattle.image.proofs.write_image.Reads as write-image-reads
-use Rattle.terminal.proofs.text.tell.Reads as tell-reads
+use Rattle.lines.proofs.text.tell.Reads as tell-reads
 
 -- src/calls.rt:189:9
 write-image-requires : tie.Need-write-image-requires

@@ -5,8 +5,8 @@ use Rattle.terminal.proofs.calls.governor.Tie as tie
 use Rattle.terminal.proofs.calls.governor.Reads as reads
 use Rattle.terminal.proofs.calls.governor.Lts as lts
 use Rattle.card.proofs.governor.governor_reading.Reads as governor-reading-reads
-use Rattle.terminal.proofs.line.read_number.Reads as read-number-reads
-use Rattle.terminal.proofs.text.tell_reading.Reads as tell-reading-reads
+use Rattle.lines.proofs.line.read_number.Reads as read-number-reads
+use Rattle.lines.proofs.text.tell_reading.Reads as tell-reading-reads
 
 -- src/calls.rt:99:9
 read-number-requires : tie.Need-read-number-requires

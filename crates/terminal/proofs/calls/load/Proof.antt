@@ -6,8 +6,8 @@ use Rattle.terminal.proofs.calls.load.Tie as tie
 use Rattle.terminal.proofs.calls.load.Reads as reads
 use Rattle.terminal.proofs.calls.load.Lts as lts
 use Rattle.image.proofs.read_image.Reads as read-image-reads
-use Rattle.terminal.proofs.line.read_bytes.Reads as read-bytes-reads
-use Rattle.terminal.proofs.text.tell_number.Reads as tell-number-reads
+use Rattle.lines.proofs.line.read_bytes.Reads as read-bytes-reads
+use Rattle.lines.proofs.text.tell_number.Reads as tell-number-reads
 
 -- src/calls.rt:184:41
 slice-aggregate-read-bytes : tie.Need-slice-aggregate-read-bytes

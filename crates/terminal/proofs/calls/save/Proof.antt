@@ -6,7 +6,7 @@ use Rattle.terminal.proofs.calls.save.Tie as tie
 use Rattle.terminal.proofs.calls.save.Reads as reads
 use Rattle.terminal.proofs.calls.save.Lts as lts
 use Rattle.terminal.proofs.calls.give_image.Reads as give-image-reads
-use Rattle.terminal.proofs.line.read_number.Reads as read-number-reads
+use Rattle.lines.proofs.line.read_number.Reads as read-number-reads
 
 -- src/calls.rt:201:41
 cast-read-number : tie.Need-cast-read-number

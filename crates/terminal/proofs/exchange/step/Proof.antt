@@ -8,9 +8,9 @@ use Rattle.terminal.proofs.exchange.step.Tie as tie
 use Rattle.terminal.proofs.exchange.step.Reads as reads
 use Rattle.terminal.proofs.exchange.step.Lts as lts
 use Rattle.terminal.proofs.exchange.take_step.Reads as take-step-reads
-use Rattle.terminal.proofs.line.read_bytes.Reads as read-bytes-reads
-use Rattle.terminal.proofs.line.read_number.Reads as read-number-reads
-use Rattle.terminal.proofs.text.put_words.Reads as put-words-reads
+use Rattle.lines.proofs.line.read_bytes.Reads as read-bytes-reads
+use Rattle.lines.proofs.line.read_number.Reads as read-number-reads
+use Rattle.lines.proofs.text.put_words.Reads as put-words-reads
 
 -- src/exchange.rt:176:41
 cast-read-number : tie.Need-cast-read-number

@@ -8,7 +8,7 @@ use Rattle.terminal.proofs.exchange.take_step.Reads as reads
 use Rattle.terminal.proofs.exchange.take_step.Lts as lts
 use Rattle.master.proofs.says.Reads as says-reads
 use Rattle.master.proofs.step.Reads as step-reads
-use Rattle.terminal.proofs.text.tell_step.Reads as tell-step-reads
+use Rattle.lines.proofs.text.tell_step.Reads as tell-step-reads
 
 -- src/exchange.rt:133:15
 add-end : tie.Need-add-end

@@ -1,0 +1,20 @@
+// The console's lines: words, numbers and bytes read from a line, and the parts of an answer line. docs/CONSOLE.md.
+pub mod line;
+pub mod text;
+
+// The longest line, without its line feed.
+pub const LINE_MOST: usize = 32_768;
+
+// No line names more bytes.
+pub const BYTES_MOST: usize = LINE_MOST / 2;
+
+// The longest answer buffer that a line can ask for.
+pub const ROOM_MOST: usize = 1_024;
+
+// The buffer of the answer line: peek memory fills most of it.
+pub const ANSWER_MOST: usize = 65_536;
+
+// The length of no answer: the words after a known first word do not fit.
+pub const UNREAD: usize = 0;
+
+pub const LINE_FEED: u8 = b'\n';
