@@ -1,0 +1,54 @@
+-- What an entry gave: its answer fits the buffer lent to it; the governor's degrees are a number. Assumes nothing.
+use mathlib.Core.Path.{_≡_, refl, sym, ap, _∙_, subst}
+use mathlib.Core.Bool.{Bool, true, not}
+use mathlib.Core.List.{List}
+use Prim.Native.Nat.{ℕ, zero, suc, _≤_}
+use native.Mathlib.Omega.{arith}
+use borrow.Author.Needs.{needs}
+use lib.Dec.{T, ltb, eqb}
+use lib.Ieee.{odd, isNan}
+use lib.ListN.{length, getD, length-append}
+use Rattle.wire.specs.Choose.{choose}
+use Rattle.wire.specs.Buffer.{overlay}
+use Rattle.wire.proofs.Cases.{by-choice}
+use Rattle.card.specs.Layout.{Card}
+use Rattle.card.specs.Reply.{Reply, Gave}
+use Rattle.master.specs.declared.Phase.{Phase}
+use Rattle.master.specs.Step.{Move, Stepped}
+use Rattle.card.specs.declared.governor.Governor.{Governor}
+use Rattle.card.specs.declared.governor.Governor.the-variants.{Degrees}
+use Rattle.card.specs.Governor.{degreesOf, toldOf, governorOf}
+use Rattle.terminal.specs.Text.{isReal}
+
+-- an entry's answer is in the buffer
+pub answer-fits : {reply : Reply} {out words memory pending out′ : List ℕ} {number len : ℕ} → Gave reply out number len words memory pending out′ → len ≤ length out′
+unfolding overlay
+answer-fits g = rw (g .measured, g .written, length-append) (omega arith)
+
+-- and so is the frame of a master's step
+pub frame-fits : {m : Move} {frame frame′ : List ℕ} {number len : ℕ} {phase : Phase} → Stepped m frame number len phase frame′ → len ≤ length frame′
+unfolding overlay
+frame-fits g = rw (g .measured, g .written, length-append) (omega arith)
+
+pub ruleset answers = (answer-fits, frame-fits, needs)
+
+-- degrees are never a NaN
+odd-real : (d : ℕ) (s : Bool) (q k l : ℕ) → T (not (isNan (odd d s q k l)))
+unfolding odd isNan
+odd-real d s zero k l = tt
+odd-real d s (suc q) k l = tt
+
+degrees-real : (code : ℕ) → T (isReal (Degrees (degreesOf code)))
+unfolding degreesOf
+degrees-real code = by-choice (λ d. T (isReal (Degrees d))) _ _ _ (λ _. odd-real _ _ _ _ _) (λ _. odd-real _ _ _ _ _)
+
+pub governor-real : (card : Card) (channel : ℕ) → T (isReal (governorOf card channel))
+unfolding governorOf toldOf
+governor-real card channel =
+    by-choice (λ g. T (isReal g)) _ _ _
+    (λ _. by-choice (λ g. T (isReal g)) _ _ _
+    (λ _. by-choice (λ g. T (isReal g)) _ _ _
+    (λ _. tt)
+    (λ _. degrees-real (getD (card .memory) channel 0)))
+    (λ _. tt))
+    (λ _. tt)

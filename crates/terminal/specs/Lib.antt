@@ -1,0 +1,4 @@
+pub mod Lent
+pub mod Text
+pub mod Entries
+pub mod Start

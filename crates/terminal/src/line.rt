@@ -1,0 +1,237 @@
+// Words, numbers and bytes of a line, and names in a list. A word is a run of bytes that are no spaces.
+use crate::text::SPACE;
+use figures::DECIMAL;
+use figures::HEX;
+use figures::NO_BYTE;
+ghost use Prim.Native.Nat.{_+_, _*_, _≤_, _<_};
+ghost use lib.ListN.{length};
+ghost use Rattle.figures.specs.Figure.{noByte};
+
+const MINUS: u8 = b'-';
+
+// Two entries of a list of names stand this and a space apart.
+const SEMICOLON: u8 = b';';
+
+const GAP: usize = 2;
+
+// "A number is decimal, of one to ten figures". A word that is none has a value above every limit.
+const FIGURES_MOST: usize = 10;
+
+const NO_NUMBER: u64 = u64::MAX;
+
+// A byte is "exactly two hex figures".
+const PAIR: usize = 2;
+
+// The largest magnitude of a negative number.
+const HALF: u32 = 2147483648;
+
+// The first place from at on where s has b, or, where has is false, another byte; else the end of s.
+fn scan(s: &[u8], at: usize, b: u8, has: bool) -> usize
+    requires { ⌜ at ≤ length (now s) ⌝ }
+    ensures { λ r. ⌜ (at ≤ r) × (r ≤ length (now (s .entry))) ⌝ }
+{
+    let mut i = at;
+    while i < s.len() {
+        let here = s[i] == b;
+        if here == has {
+            return i;
+        }
+        i += 1;
+    }
+    i
+}
+
+// Where the first word from at on starts, or the end of the line.
+pub fn next_word(s: &[u8], at: usize) -> usize
+    requires { ⌜ at ≤ length (now s) ⌝ }
+    ensures { λ r. ⌜ (at ≤ r) × (r ≤ length (now (s .entry))) ⌝ }
+{
+    scan(s, at, SPACE, false)
+}
+
+// Where the word at at ends.
+fn word_end(s: &[u8], at: usize) -> usize
+    requires { ⌜ at ≤ length (now s) ⌝ }
+    ensures { λ r. ⌜ (at ≤ r) × (r ≤ length (now (s .entry))) ⌝ }
+{
+    scan(s, at, SPACE, true)
+}
+
+// The value of a word of decimal figures, or NO_NUMBER.
+fn number_in(word: &[u8]) -> u64 {
+    if word.len() == 0 {
+        return NO_NUMBER;
+    }
+    if FIGURES_MOST < word.len() {
+        return NO_NUMBER;
+    }
+    if !figures::all_figures(word, DECIMAL) {
+        return NO_NUMBER;
+    }
+    figures::value(word)
+}
+
+// A number read from a line: whether there is one, its value and where the next word starts.
+pub struct Number {
+    pub right: bool,
+    pub value: u32,
+    pub next: usize,
+}
+
+// The word at at as a number of at most most.
+pub fn read_number(s: &[u8], at: usize, most: u32) -> Number
+    requires { ⌜ at ≤ length (now s) ⌝ }
+    ensures { λ r. ⌜ (r .value ≤ most) × (r .next ≤ length (now (s .entry))) ⌝ }
+{
+    let end = word_end(s, at);
+    let value = number_in(&s[at..end]);
+    let next = next_word(s, end);
+    if (most as u64) < value {
+        return Number {
+            right: false,
+            value: 0,
+            next,
+        };
+    }
+    Number {
+        right: true,
+        value: value as u32,
+        next,
+    }
+}
+
+// The word at at as a signed number, in two's complement.
+pub fn read_signed(s: &[u8], at: usize) -> Number
+    requires { ⌜ at ≤ length (now s) ⌝ }
+    ensures { λ r. ⌜ r .next ≤ length (now (s .entry)) ⌝ }
+{
+    if at < s.len() {
+        if s[at] == MINUS {
+            let n = read_number(s, at + 1, HALF);
+            return Number {
+                right: n.right,
+                value: figures::with_sign(true, n.value),
+                next: n.next,
+            };
+        }
+    }
+    read_number(s, at, HALF - 1)
+}
+
+// The byte that the word at at is, or NO_BYTE.
+fn byte_at(s: &[u8], at: usize) -> u32
+    requires { ⌜ at < length (now s) ⌝ }
+    ensures { λ r. ⌜ (r ≤ noByte) × ((r < noByte → at + 2 ≤ length (now (s .entry)))) ⌝ }
+{
+    let end = word_end(s, at);
+    if end - at != PAIR {
+        return NO_BYTE;
+    }
+    figures::pair_byte(s[at], s[at + 1], HEX)
+}
+
+// Bytes read from a line: how many there are, and where the first word starts that is none.
+pub struct Bytes {
+    pub count: usize,
+    pub next: usize,
+}
+
+// The words from at on as bytes, up to the first that is none. They go to the front of to.
+pub fn read_bytes(s: &[u8], at: usize, to: &mut [u8]) -> Bytes
+    requires { ⌜ (at ≤ length (now s)) × (length (now s) ≤ 2 * length (now to)) ⌝ }
+    ensures { λ r. ⌜ (r .count ≤ length (now (to .exit))) × (r .next ≤ length (now (s .entry))) ⌝ }
+{
+    let mut next = at;
+    let mut count = 0;
+    while next < s.len() {
+        let b = byte_at(s, next);
+        if NO_BYTE <= b {
+            return Bytes { count, next };
+        }
+        to[count] = b as u8;
+        count += 1;
+        next = next_word(s, next + PAIR);
+    }
+    Bytes { count, next }
+}
+
+// Whether s starts with the bytes of word.
+fn starts_with(s: &[u8], word: &[u8]) -> bool
+    requires { ⌜ length (now word) ≤ length (now s) ⌝ }
+{
+    let mut i = 0;
+    while i < word.len() {
+        if s[i] != word[i] {
+            return false;
+        }
+        i += 1;
+    }
+    true
+}
+
+// Where the entry at from of a list ends.
+pub fn entry_end(list: &[u8], from: usize) -> usize
+    requires { ⌜ from ≤ length (now list) ⌝ }
+    ensures { λ r. ⌜ (from ≤ r) × (r ≤ length (now (list .entry))) ⌝ }
+{
+    scan(list, from, SEMICOLON, true)
+}
+
+// Where the entry after the one at from starts, or the end of the list.
+pub fn next_entry(list: &[u8], from: usize) -> usize
+    requires { ⌜ from < length (now list) ⌝ }
+    ensures { λ r. ⌜ (from < r) × (r ≤ length (now (list .entry))) ⌝ }
+{
+    let end = entry_end(list, from);
+    if list.len() - end < GAP {
+        return list.len();
+    }
+    end + GAP
+}
+
+// How long the first word of the entry at from is.
+pub fn name_len(list: &[u8], from: usize) -> usize
+    requires { ⌜ from ≤ length (now list) ⌝ }
+    ensures { λ r. ⌜ from + r ≤ length (now (list .entry)) ⌝ }
+{
+    let end = entry_end(list, from);
+    word_end(&list[from..end], 0)
+}
+
+// Whether the entry at from has word as its first word.
+pub fn is_named(list: &[u8], from: usize, word: &[u8]) -> bool
+    requires { ⌜ from ≤ length (now list) ⌝ }
+{
+    if name_len(list, from) != word.len() {
+        return false;
+    }
+    starts_with(&list[from..], word)
+}
+
+// A name read from a line: the number of the entry that has it, counted from 0, or the count of entries where none has; where
+// that entry starts; where the line's next word starts.
+pub struct Name {
+    pub number: usize,
+    pub from: usize,
+    pub next: usize,
+}
+
+// The word at at as the first word of an entry of a list.
+pub fn read_name(s: &[u8], at: usize, list: &[u8]) -> Name
+    requires { ⌜ at ≤ length (now s) ⌝ }
+    ensures { λ r. ⌜ (r .from ≤ length (now (list .entry))) × (r .next ≤ length (now (s .entry))) ⌝ }
+{
+    let end = word_end(s, at);
+    let word = &s[at..end];
+    let next = next_word(s, end);
+    let mut number = 0;
+    let mut from = 0;
+    while from < list.len() {
+        if is_named(list, from, word) {
+            return Name { number, from, next };
+        }
+        from = next_entry(list, from);
+        number += 1;
+    }
+    Name { number, from, next }
+}
