@@ -1,18 +1,19 @@
 -- Laws of specs/Reply.antt: what an entry that stops early has given, and that a refusal changes nothing. Assumes nothing.
 use mathlib.Core.Path.{_≡_, refl, sym, ap, _∙_, subst}
-use mathlib.Core.Bool.{true, false}
+use mathlib.Core.Bool.{Bool, true, false}
 use mathlib.Core.List.{List}
-use Prim.Native.Nat.{ℕ, _≤_, _<_}
-use borrow.Author.Tests.{le-leb, lt-leb}
+use Prim.Native.Nat.{ℕ, _≤_}
+use native.Mathlib.Omega.{arith}
+use borrow.Author.Tests.{le-leb, leb-true}
 use lib.Dec.{leb}
 use lib.ListN.{length}
 use Rattle.wire.specs.Buffer.{overlay}
 use Rattle.wire.proofs.Cases.{yes, no, by-choice}
 use Rattle.wire.proofs.Buffers.{overlay-none}
-use Rattle.card.specs.Numbers.{bufferShort, cardUnfit}
+use Rattle.card.specs.Numbers.{answered, bufferShort, cardUnfit}
 use Rattle.card.specs.Layout.{Card}
 use Rattle.card.specs.Tables.{fit}
-use Rattle.card.specs.Reply.{Reply, WordsReply, onWords, silent, shell, guarded, Keeps, Gave, GaveWords, Wrote, Did}
+use Rattle.card.specs.Reply.{Reply, WordsReply, onWords, silent, shell, early, guarded, Keeps, Gave, GaveWords, Wrote, Did}
 
 -- a number alone: nothing written, no table changed
 pub did-silent : (number : ℕ) (card : Card) → Did (silent number card) number (card .words) (card .memory) (card .pending)
@@ -27,6 +28,11 @@ did-as {number} {words} {memory} {pending} r q e = subst (λ (x : Reply). Did x 
 
 pub gave-as : {out : List ℕ} {number len : ℕ} {words memory pending out′ : List ℕ} (r q : Reply) → r ≡ q → Gave r out number len words memory pending out′ → Gave q out number len words memory pending out′
 gave-as {out} {number} {len} {words} {memory} {pending} {out′} r q e = subst (λ (x : Reply). Gave x out number len words memory pending out′) e
+
+-- a number alone, and it is the reply
+pub gave-number : {number : ℕ} {q : Reply} {card : Card} {out : List ℕ} {n : ℕ} → number ≡ n → silent n card ≡ q → Gave q out number 0 (card .words) (card .memory) (card .pending) out
+gave-number {number} {q} {card} {out} {n} e s =
+    gave-as (silent number card) q (ap (λ (k : ℕ). silent k card) e ∙ s) (gave-silent number card out)
 
 -- an entry without an answer buffer that did a silent reply, where one with a buffer is meant
 pub gave-did : (r : Reply) (out : List ℕ) {number : ℕ} {words memory pending : List ℕ} → Did r number words memory pending → Gave r out number 0 words memory pending out
@@ -46,14 +52,28 @@ pub gave-words : (card : Card) (r : WordsReply) (out : List ℕ) {number len : �
 gave-words card r out g =
     record { numbered = g .numbered; measured = g .measured; written = g .written; worded = g .worded; remembered = refl; pended = refl }
 
-module _ (least : ℕ) (card : Card) (out : List ℕ) (reply : Reply) where
-  pub shell-unfit : fit card ≡ false → Gave (shell least card (length out) reply) out cardUnfit 0 (card .words) (card .memory) (card .pending) out
-  unfolding shell
-  shell-unfit h = gave-as (silent cardUnfit card) _ (no _ _ _ _ h refl) (gave-silent cardUnfit card out)
+-- the shell let a request pass: the card is fit and the buffer is long enough
+pub early-none : (least : ℕ) (card : Card) (room : ℕ) {number : ℕ} → number ≡ early least card room → number ≡ answered → (fit card ≡ true) × (least ≤ room)
+unfolding early
+early-none least card room {number} e z = by (fit card) (leb least room) refl refl
+  where
+    by : (f l : Bool) → fit card ≡ f → leb least room ≡ l → (fit card ≡ true) × (least ≤ room)
+    by true true f l = (f, leb-true least room l)
+    by true false f l = let w : answered ≡ bufferShort = sym z ∙ e ∙ sym (yes _ _ _ _ f (no _ _ _ _ l refl)) in absurd (omega arith)
+    by false l f _ = let w : answered ≡ cardUnfit = sym z ∙ e ∙ sym (no _ _ _ _ f refl) in absurd (omega arith)
 
-  pub shell-short : fit card ≡ true → length out < least → Gave (shell least card (length out) reply) out bufferShort 0 (card .words) (card .memory) (card .pending) out
-  unfolding shell
-  shell-short h l = gave-as (silent bufferShort card) _ (yes _ _ _ _ h (no _ _ _ _ (lt-leb least (length out) l) refl)) (gave-silent bufferShort card out)
+module _ (least : ℕ) (card : Card) (out : List ℕ) (reply : Reply) where
+  -- the number with which the shell stops is the reply
+  pub shell-stopped : {number : ℕ} → number ≡ early least card (length out) → (number ≡ answered → ⊥)
+      → Gave (shell least card (length out) reply) out number 0 (card .words) (card .memory) (card .pending) out
+  unfolding shell early
+  shell-stopped {number} e n = by (fit card) (leb least (length out)) refl refl
+    where
+      by : (f l : Bool) → fit card ≡ f → leb least (length out) ≡ l
+          → Gave (shell least card (length out) reply) out number 0 (card .words) (card .memory) (card .pending) out
+      by true true f l = absurd (n (e ∙ sym (yes _ _ _ _ f (yes _ _ _ _ l refl))))
+      by true false f l = gave-number (e ∙ sym (yes _ _ _ _ f (no _ _ _ _ l refl))) (yes _ _ _ _ f (no _ _ _ _ l refl))
+      by false l f _ = gave-number (e ∙ sym (no _ _ _ _ f refl)) (no _ _ _ _ f refl)
 
   pub shell-passed : {number len : ℕ} {words memory pending out′ : List ℕ} → fit card ≡ true → least ≤ length out
       → Gave reply out number len words memory pending out′ → Gave (shell least card (length out) reply) out number len words memory pending out′

@@ -6,7 +6,7 @@ use lib.Dec.{leb}
 use lib.ListN.{length}
 use Rattle.wire.specs.Choose.{choose}
 use Rattle.wire.specs.Buffer.{overlay}
-use Rattle.card.specs.Numbers.{foreignAddress, bufferShort, cardUnfit}
+use Rattle.card.specs.Numbers.{answered, foreignAddress, bufferShort, cardUnfit}
 use Rattle.card.specs.Layout.{Card}
 use Rattle.card.specs.Tables.{fit}
 
@@ -42,6 +42,10 @@ roomLeast = 38
 -- "Number 12 comes first, then 11, .. then the dialect's order": room is the answer buffer's length, least what the entry needs
 unfoldable pub shell : ℕ → Card → ℕ → Reply → Reply
 shell least card room reply = choose (fit card) (choose (leb least room) reply (silent bufferShort card)) (silent cardUnfit card)
+
+-- the number with which the shell stops before the dialect's order, 0 where it does not
+unfoldable pub early : ℕ → Card → ℕ → ℕ
+early least card room = choose (fit card) (choose (leb least room) answered bufferShort) cardUnfit
 
 -- an entry with no answer buffer: 12 first
 unfoldable pub guarded : Card → Reply → Reply

@@ -5,8 +5,7 @@ pub mod frame;
 
 use card::Outcome;
 use card::ROOM_LEAST;
-use card::numbers::BUFFER_SHORT;
-use card::numbers::CARD_UNFIT;
+use card::numbers::ANSWERED;
 ghost use lib.ListN.{length};
 ghost use Rattle.card.specs.Layout.{cardOf};
 ghost use Rattle.card.specs.Reply.{Gave};
@@ -22,17 +21,9 @@ pub fn datalink(
 ) -> Outcome
     ensures { λ r. ⌜ Gave (datalinkReply (cardOf (now (words .entry)) (now (memory .entry)) (now (pending .entry))) (length (now (out .entry))) (now (f .entry))) (now (out .entry)) (r .number) (r .len) (now (words .entry)) (now (memory .exit)) (now (pending .exit)) (now (out .exit)) ⌝ }
 {
-    if !card::fitness::is_fit(words, memory, pending) {
-        return Outcome {
-            number: CARD_UNFIT,
-            len: 0,
-        };
-    }
-    if out.len() < ROOM_LEAST {
-        return Outcome {
-            number: BUFFER_SHORT,
-            len: 0,
-        };
+    let number = card::stop_early(words, memory, pending, ROOM_LEAST, out.len());
+    if number != ANSWERED {
+        return Outcome { number, len: 0 };
     }
     answer::obey(words, memory, pending, f, out)
 }

@@ -14,7 +14,6 @@ use bits::write_field;
 use card::Outcome;
 use card::fitness::is_fit;
 use card::numbers::ANSWERED;
-use card::numbers::BUFFER_SHORT;
 use card::numbers::CARD_UNFIT;
 use card::numbers::DONE;
 use card::numbers::IMAGE_LENGTH;
@@ -61,17 +60,9 @@ fn pack(words: &[u32], image: &mut [u8])
 pub fn write_image(words: &[u32], memory: &[u8], pending: &[u8], out: &mut [u8]) -> Outcome
     ensures { λ r. ⌜ Gave (writeImage (cardOf (now (words .entry)) (now (memory .entry)) (now (pending .entry))) (length (now (out .entry)))) (now (out .entry)) (r .number) (r .len) (now (words .entry)) (now (memory .entry)) (now (pending .entry)) (now (out .exit)) ⌝ }
 {
-    if !is_fit(words, memory, pending) {
-        return Outcome {
-            number: CARD_UNFIT,
-            len: 0,
-        };
-    }
-    if out.len() < IMAGE {
-        return Outcome {
-            number: BUFFER_SHORT,
-            len: 0,
-        };
+    let number = card::stop_early(words, memory, pending, IMAGE, out.len());
+    if number != ANSWERED {
+        return Outcome { number, len: 0 };
     }
     pack(words, &mut out[..IMAGE]);
     Outcome {

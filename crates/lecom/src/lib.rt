@@ -5,8 +5,7 @@ mod frame;
 
 use card::Outcome;
 use card::ROOM_LEAST;
-use card::numbers::BUFFER_SHORT;
-use card::numbers::CARD_UNFIT;
+use card::numbers::ANSWERED;
 ghost use lib.ListN.{length};
 ghost use Rattle.card.specs.Layout.{cardOf};
 ghost use Rattle.card.specs.Reply.{Gave};
@@ -16,17 +15,9 @@ ghost use Rattle.lecom.specs.Answer.{lecomReply};
 pub fn lecom(words: &mut [u32], memory: &[u8], pending: &[u8], f: &[u8], out: &mut [u8]) -> Outcome
     ensures { λ r. ⌜ Gave (lecomReply (cardOf (now (words .entry)) (now (memory .entry)) (now (pending .entry))) (length (now (out .entry))) (now (f .entry))) (now (out .entry)) (r .number) (r .len) (now (words .exit)) (now (memory .entry)) (now (pending .entry)) (now (out .exit)) ⌝ }
 {
-    if !card::fitness::is_fit(words, memory, pending) {
-        return Outcome {
-            number: CARD_UNFIT,
-            len: 0,
-        };
-    }
-    if out.len() < ROOM_LEAST {
-        return Outcome {
-            number: BUFFER_SHORT,
-            len: 0,
-        };
+    let number = card::stop_early(words, memory, pending, ROOM_LEAST, out.len());
+    if number != ANSWERED {
+        return Outcome { number, len: 0 };
     }
     answer::obey(words, memory, f, out)
 }

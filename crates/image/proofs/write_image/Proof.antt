@@ -6,9 +6,8 @@ use borrow.Author.Needs.{needs}
 use lib.ListN.{drop}
 use lib.Seq.{length-take-le}
 use Rattle.wire.specs.Buffer.{overlay}
-use Rattle.wire.proofs.Cases.{told-yes, told-no}
 use Rattle.card.proofs.Facts.{fit-facts}
-use Rattle.card.proofs.Replies.{shell-unfit, shell-short, shell-passed}
+use Rattle.card.proofs.Replies.{early-none, shell-stopped, shell-passed}
 use Rattle.image.specs.Form.{imageSize}
 use Rattle.image.specs.Saved.{imageOf}
 use Rattle.image.specs.Entries.{writeImage}
@@ -16,36 +15,35 @@ use Rattle.image.proofs.Whole.{length-imageOf}
 use Rattle.image.proofs.write_image.Statement.{statement}
 use Rattle.image.proofs.write_image.Tie as tie
 
-is-fit-requires : tie.Need-is-fit-requires
-is-fit-requires c κs = search needs
+stop-early-requires : tie.Need-stop-early-requires
+stop-early-requires c κs = search needs
 
 returns : tie.Need-returns
 unfolding writeImage
-returns c = shell-unfit _ _ _ _ (told-no (c .before .is-fit .ensures) (c .if1 .taken))
-
-returns-2 : tie.Need-returns-2
-unfolding writeImage
-returns-2 c = shell-short _ _ _ _ (told-yes (c .before .before .is-fit .ensures) (c .before .if1 .left)) (c .if2 .taken)
+returns c = shell-stopped _ _ _ _ (c .before .stop-early .ensures) (c .if1 .taken)
 
 slice-relend-prefix-pack : tie.Need-slice-relend-prefix-pack
-slice-relend-prefix-pack c = search needs
+slice-relend-prefix-pack c = early-none _ _ _ (c .before .stop-early .ensures) (c .if1 .left) .1
 
 slice-aggregate-pack : tie.Need-slice-aggregate-pack
-slice-aggregate-pack c = sym (length-take-le imageSize (c .before .before .before .before .before .before .before .before .args .out .now) (c .before .if2 .left))
+slice-aggregate-pack c = sym (length-take-le imageSize (c .before .before .before .before .before .before .before .args .out .now) (early-none _ _ _ (c .before .before .stop-early .ensures) (c .before .if1 .left) .1))
 
 pack-requires : tie.Need-pack-requires
 pack-requires c κs =
-    (fit-facts _ (told-yes (c .before .before .before .is-fit .ensures) (c .before .before .if1 .left)) .words-length, length-take-le imageSize (c .before .before .before .before .before .before .before .before .args .out .now) (c .before .if2 .left))
+    let p = early-none _ _ _ (c .before .before .stop-early .ensures) (c .before .if1 .left) in
+    (fit-facts _ (p .0) .words-length, length-take-le imageSize (c .before .before .before .before .before .before .before .args .out .now) (p .1))
 
 same-length : tie.Need-same-length
 same-length c = search needs
 
-returns-3 : tie.Need-returns-3
+returns-2 : tie.Need-returns-2
 unfolding writeImage overlay
-returns-3 c =
-    let a = c .before .before .before .before .before .before .before .before .before .before .before .args in
+returns-2 c =
+    let passed = c .before .before .before .before in
+    let p = early-none _ _ _ (passed .before .stop-early .ensures) (passed .if1 .left) in
+    let a = passed .before .before .before .before .before .before .args in
     let l = length-imageOf (a .words .now) in
-    shell-passed _ _ _ _ (told-yes (c .before .before .before .before .before .before .is-fit .ensures) (c .before .before .before .before .before .if1 .left)) (c .before .before .before .before .if2 .left)
+    shell-passed _ _ _ _ (p .0) (p .1)
     (record {
       numbered = refl;
       measured = sym l;
@@ -59,11 +57,10 @@ pub write-image-spec : {M : Type 1} → statement M
 write-image-spec =
     tie.close
     (tie.spec
-    is-fit-requires
+    stop-early-requires
     returns
-    returns-2
     slice-relend-prefix-pack
     slice-aggregate-pack
     pack-requires
     same-length
-    returns-3)
+    returns-2)
