@@ -5,8 +5,8 @@ use mathlib.Core.List.{List, [], _∷_}
 use Prim.Native.Nat.{ℕ, zero, suc, _+_, _<_, _≤_}
 use native.Mathlib.Omega.{arith}
 use native.Mathlib.Numerals.{add-one, add-two}
-use lib.ListN.{length, drop, getD}
-use lib.Seq.{drop-cons}
+use lib.ListN.{length, take, drop, getD}
+use lib.Seq.{drop-cons, drop-drop}
 use Rattle.card.specs.Tables.{inSpan, allIn, fitParameters, cycleLeast, cycleMost, floorMost}
 
 pub and-assoc : (a b d : Bool) → (a && (b && d)) ≡ ((a && b) && d)
@@ -16,6 +16,23 @@ and-assoc false b d = refl
 pub and-true-right : (t : Bool) → (t && true) ≡ t
 and-true-right true = refl
 and-true-right false = refl
+
+pub and-false-right : (t : Bool) → (t && false) ≡ false
+and-false-right true = refl
+and-false-right false = refl
+
+-- a list's test is that of its first k words and that of the rest
+pub allIn-parts : (lo hi k : ℕ) (s : List ℕ) → allIn lo hi s ≡ (allIn lo hi (take k s) && allIn lo hi (drop k s))
+unfolding allIn
+allIn-parts lo hi zero s = refl
+allIn-parts lo hi (suc k) [] = refl
+allIn-parts lo hi (suc k) (x ∷ s) = ap (λ (t : Bool). inSpan lo hi x && t) (allIn-parts lo hi k s) ∙ and-assoc (inSpan lo hi x) (allIn lo hi (take k s)) (allIn lo hi (drop k s))
+
+-- the same for three parts, the first two of n words each
+pub allIn-thirds : (lo hi n : ℕ) (s : List ℕ) → allIn lo hi s ≡ (allIn lo hi (take n s) && (allIn lo hi (take n (drop n s)) && allIn lo hi (drop (n + n) s)))
+allIn-thirds lo hi n s =
+    let rest : allIn lo hi (drop n s) ≡ (allIn lo hi (take n (drop n s)) && allIn lo hi (drop (n + n) s)) = rw (← drop-drop n n s) (allIn-parts lo hi n (drop n s)) in
+    allIn-parts lo hi n s ∙ ap (λ (t : Bool). allIn lo hi (take n s) && t) rest
 
 -- a test found `here` at index i, and `ok` before it
 pub allIn-next : (lo hi : ℕ) (s : List ℕ) (i : ℕ) (ok here : Bool) → i < length s → here ≡ inSpan lo hi (getD s i 0) → (ok && allIn lo hi (drop i s)) ≡ ((ok && here) && allIn lo hi (drop (suc i) s))

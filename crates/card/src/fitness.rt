@@ -13,12 +13,14 @@ use crate::layout::MEMORY;
 use crate::layout::NUM;
 use crate::layout::PARAMETERS;
 use crate::layout::PENDING;
+use crate::layout::REGISTERS;
 use crate::layout::WORDS;
 ghost use mathlib.Core.Path.{_≡_};
-ghost use Prim.Native.Nat.{_<_};
+ghost use Prim.Native.Nat.{_*_, _<_};
 ghost use lib.ListN.{length};
-ghost use Rattle.card.specs.Layout.{cardOf, wordCount, pendingSize};
-ghost use Rattle.card.specs.Tables.{inSpan, allIn, inMemory, namesReadOnly, named, numRight, echoable, addressOf, fitPending, lecomRight, loveRight, fitAddresses, fitParameters, fitWords, fit};
+ghost use Rattle.wire.specs.Word.{minus};
+ghost use Rattle.card.specs.Layout.{cardOf, registers, wordCount, pendingSize};
+ghost use Rattle.card.specs.Tables.{inSpan, allIn, inMemory, namesReadOnly, named, numRight, echoable, addressOf, fitPending, lecomRight, loveRight, fitAddresses, fitParameters, registerMost, fitWords, fit};
 
 // Datalink addresses: the first, the one after the last, and the first writable one.
 pub const MEMORY_START: u32 = 0x1000;
@@ -140,10 +142,12 @@ fn fit_pending(pending: &[u8]) -> bool
     ensures { λ r. ⌜ r ≡ fitPending (now (pending .entry)) ⌝ }
 {
     let kind = pending[KIND];
+    if kind == NO_CHANGE {
+        return true;
+    }
     let num = pending[NUM];
     let at = address(pending[LOW_ADDRESS], pending[HIGH_ADDRESS]);
-    let echoed = is_echoable(kind, num, at, bytes_named(kind, num));
-    (kind == NO_CHANGE) | echoed
+    is_echoable(kind, num, at, bytes_named(kind, num))
 }
 
 // Whether a LECOM address is in its range.
@@ -185,6 +189,17 @@ fn fit_parameters(s: &[u32]) -> bool
     ok
 }
 
+// Whether every register is in its range. A copy by itself is few enough words for a loop that is unrolled whole.
+fn fit_registers(s: &[u32]) -> bool
+    requires { ⌜ length (now s) ≡ 3 * registers ⌝ }
+    ensures { λ r. ⌜ r ≡ allIn (minus registerMost) registerMost (now (s .entry)) ⌝ }
+{
+    let buffer = all_in(&s[..REGISTERS], REGISTER_LEAST, REGISTER_MOST);
+    let operational = all_in(&s[REGISTERS..2 * REGISTERS], REGISTER_LEAST, REGISTER_MOST);
+    let saved = all_in(&s[2 * REGISTERS..], REGISTER_LEAST, REGISTER_MOST);
+    buffer & (operational & saved)
+}
+
 // Whether every word is in its range.
 fn fit_words(words: &[u32]) -> bool
     requires { ⌜ length (now words) ≡ wordCount ⌝ }
@@ -194,7 +209,7 @@ fn fit_words(words: &[u32]) -> bool
     let love = all_in(&words[LOVE..DEMANDS], LOVE_LEAST, LOVE_MOST);
     let demands = all_in(&words[DEMANDS..PARAMETERS], 0, DEMAND_MOST);
     let parameters = fit_parameters(&words[PARAMETERS..BUFFER]);
-    let registers = all_in(&words[BUFFER..WORDS], REGISTER_LEAST, REGISTER_MOST);
+    let registers = fit_registers(&words[BUFFER..WORDS]);
     addresses & (love & (demands & (parameters & registers)))
 }
 
@@ -211,7 +226,8 @@ pub fn is_fit(words: &[u32], memory: &[u8], pending: &[u8]) -> bool
     if pending.len() != PENDING {
         return false;
     }
-    let entries = fit_words(words);
-    let change = fit_pending(pending);
-    entries & change
+    if !fit_pending(pending) {
+        return false;
+    }
+    fit_words(words)
 }

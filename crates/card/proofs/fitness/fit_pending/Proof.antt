@@ -1,11 +1,16 @@
--- `card::fitness::fit_pending` meets its contract: the tests are those of the definition. Assumes nothing.
+-- `card::fitness::fit_pending` meets its contract: no change first, then the tests of the definition. Assumes nothing.
 use Rattle.card.specs.Tables.{fitPending}
+use borrow.Author.Tests.{eq-eqb, ne-eqb}
 use borrow.Author.Needs.{needs}
 use Rattle.card.proofs.fitness.fit_pending.Statement.{statement}
 use Rattle.card.proofs.fitness.fit_pending.Tie as tie
 
 shared-slice-read-kind : tie.Need-shared-slice-read-kind
 shared-slice-read-kind c = search needs
+
+returns : tie.Need-returns
+unfolding fitPending
+returns c = simp (eq-eqb _ _ (c .if1 .taken))
 
 shared-slice-read-num : tie.Need-shared-slice-read-num
 shared-slice-read-num c = search needs
@@ -25,19 +30,20 @@ bytes-named-requires c κs = search needs
 is-echoable-requires : tie.Need-is-echoable-requires
 is-echoable-requires c κs = search needs
 
-returns : tie.Need-returns
+returns-2 : tie.Need-returns-2
 unfolding fitPending
-returns c = cc
+returns-2 c = simp (ne-eqb _ _ (c .before .before .before .before .before .before .if1 .left)) (cc)
 
 pub fit-pending-spec : {M : Type 1} → statement M
 fit-pending-spec =
     tie.close
     (tie.spec
     shared-slice-read-kind
+    returns
     shared-slice-read-num
     shared-slice-read-address
     shared-slice-read-address-2
     address-requires
     bytes-named-requires
     is-echoable-requires
-    returns)
+    returns-2)

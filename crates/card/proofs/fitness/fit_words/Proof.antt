@@ -52,17 +52,17 @@ part-fit-parameters-end c = search needs
 fit-parameters-requires : tie.Need-fit-parameters-requires
 fit-parameters-requires c κs = search needs
 
-sub-all-in-3 : tie.Need-sub-all-in-3
-sub-all-in-3 c = search needs
+sub-fit-registers : tie.Need-sub-fit-registers
+sub-fit-registers c = search needs
 
-part-all-in-start-3 : tie.Need-part-all-in-start-3
-part-all-in-start-3 c = search needs
+part-fit-registers-start : tie.Need-part-fit-registers-start
+part-fit-registers-start c = search needs
 
-part-all-in-end-3 : tie.Need-part-all-in-end-3
-part-all-in-end-3 c = search needs
+part-fit-registers-end : tie.Need-part-fit-registers-end
+part-fit-registers-end c = search needs
 
-all-in-requires-3 : tie.Need-all-in-requires-3
-all-in-requires-3 c κs = search needs
+fit-registers-requires : tie.Need-fit-registers-requires
+fit-registers-requires c κs = search needs
 
 returns : tie.Need-returns
 unfolding fitWords
@@ -88,8 +88,8 @@ fit-words-spec =
     part-fit-parameters-start
     part-fit-parameters-end
     fit-parameters-requires
-    sub-all-in-3
-    part-all-in-start-3
-    part-all-in-end-3
-    all-in-requires-3
+    sub-fit-registers
+    part-fit-registers-start
+    part-fit-registers-end
+    fit-registers-requires
     returns)
