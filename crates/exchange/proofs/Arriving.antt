@@ -91,10 +91,11 @@ module _ (q : Request) (a : Accepted q) (start card : Card) (line : Line) (r : R
       by (inl b) = from (b .old) (b .held)
       by (inr f) = absurd (t .pending (f .none .kind))
 
-  reading-turned : Turned card r → AtReading q start card line → AtReading q start (r .card) (afterArrival line r)
+  -- the interrogate, refused or answered, leaves the card; its answers show the bytes as they are
+  reading-kept : r .card ≡ card → Every (Shows q card) (afterArrival line r .answers) → AtReading q start card line → AtReading q start (r .card) (afterArrival line r)
   unfolding afterArrival
-  reading-turned t v =
-      subst (λ (x : Card). AtReading q start x (afterArrival line r)) (sym (t .kept))
+  reading-kept kept answers v =
+      subst (λ (x : Card). AtReading q start x (afterArrival line r)) (sym kept)
       (record {
         range = v .range;
         stand = v .stand;
@@ -104,8 +105,11 @@ module _ (q : Request) (a : Accepted q) (start card : Card) (line : Line) (r : R
         two = v .two;
         closed = v .closed;
         carried = v .carried;
-        heard = answers-kept (Shows q card) line r (t .number) (v .heard);
+        heard = answers;
       })
+
+  reading-turned : Turned card r → AtReading q start card line → AtReading q start (r .card) (afterArrival line r)
+  reading-turned t v = reading-kept (t .kept) (answers-kept (Shows q card) line r (t .number) (v .heard)) v
 
   shows : Shown q card r → AtReading q start card line → Shows q card (r .bytes)
   unfolding shown
@@ -122,20 +126,7 @@ module _ (q : Request) (a : Accepted q) (start card : Card) (line : Line) (r : R
       }
 
   reading-shown : Shown q card r → AtReading q start card line → AtReading q start (r .card) (afterArrival line r)
-  unfolding afterArrival
-  reading-shown t v =
-      subst (λ (x : Card). AtReading q start x (afterArrival line r)) (sym (t .kept))
-      (record {
-        range = v .range;
-        stand = v .stand;
-        frame = v .frame;
-        frames = v .frames;
-        one = v .one;
-        two = v .two;
-        closed = v .closed;
-        carried = v .carried;
-        heard = answers-more (Shows q card) line r (shows t v) (v .heard);
-      })
+  reading-shown t v = reading-kept (t .kept) (answers-more (Shows q card) line r (shows t v) (v .heard)) v
 
   new-turned : Turned card r → AtNew start card line → AtNew start (r .card) (afterArrival line r)
   unfolding afterArrival

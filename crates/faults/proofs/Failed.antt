@@ -1,22 +1,22 @@
 -- The theorem of specs/NoTemperature.antt, dialect by dialect. Assumes nothing.
 use Prim.Native.Nat.{ℕ, _+_, _-_, _<_}
-use mathlib.Core.Path.{_≡_, refl, sym, ap, ap₂, _∙_}
+use mathlib.Core.Path.{_≡_, refl, sym, ap, _∙_}
 use mathlib.Core.Bool.{Bool, true, false}
 use mathlib.Core.Logic.{_⊎_, inl, inr, ⊎-elim}
-use mathlib.Core.List.{List, [], _∷_}
+use mathlib.Core.List.{List, []}
 use native.Mathlib.Omega.{arith}
 use borrow.Author.Tests.{eqb-true, eqb-false, ltb-false}
 use lib.Dec.{eqb, ltb, leb}
-use lib.ListN.{length, getD, set, length-set}
+use lib.ListN.{getD, set, length-set}
 use lib.Seq.{getD-set-other}
 use Rattle.wire.specs.Choose.{choose}
 use Rattle.wire.proofs.Cases.{by-choice}
 use Rattle.card.specs.Layout.{Card, channels}
 use Rattle.card.specs.Tables.{fit}
-use Rattle.card.specs.Probe.{faultCode, readingOf}
+use Rattle.card.specs.Probe.{faultCode}
 use Rattle.card.specs.Entries.{withCode}
 use Rattle.card.specs.Governor.{governorOf, toldOf, valuesOf}
-use Rattle.card.specs.Numbers.{bufferShort, cardUnfit, probeFault}
+use Rattle.card.specs.Numbers.{bufferShort, cardUnfit}
 use Rattle.card.specs.Reply.{WordsReply, onWords, silent, shell, roomLeast}
 use Rattle.card.specs.declared.governor.Governor.{Governor}
 use Rattle.lecom.specs.Frame.{firstProbe, asked as lecomAsked}

@@ -1,5 +1,5 @@
 -- The whole image: it is as long as it must be, its padding is zero, and what stood in the buffer before does not count. Assumes nothing.
-use Prim.Native.Nat.{ℕ, zero, suc, _+_, _*_}
+use Prim.Native.Nat.{ℕ, zero, suc, _*_}
 use mathlib.Core.Path.{_≡_, refl, sym, ap, _∙_}
 use mathlib.Core.Logic.{inr}
 use mathlib.Core.List.{List, [], _∷_, _++_}
@@ -10,7 +10,7 @@ use Rattle.bits.specs.Bits.{bit, field, putField}
 use Rattle.bits.specs.Fields.{widthOf, putFields}
 use Rattle.bits.proofs.Reading.{Bytes}
 use Rattle.bits.proofs.Writing.{putField-own}
-use Rattle.bits.proofs.Sequences.{length-putFields, field-putFields-other, putFields-append, putFields-whole, putFields-bytes}
+use Rattle.bits.proofs.Sequences.{length-putFields, field-putFields-other, putFields-append, putFields-whole}
 use Rattle.image.specs.declared.form.Entry.{Entry}
 use Rattle.image.specs.Form.{run, savedForm, widths, used, padding, imageSize}
 use Rattle.image.specs.Saved.{values, imageOf, paddingOf}

@@ -1,24 +1,23 @@
 -- A fit card stays fit, whatever LucidControl frame it gets. Assumes nothing.
-use mathlib.Core.Path.{_≡_, refl, sym, ap, _∙_, subst}
-use mathlib.Core.Bool.{Bool, true, false, _&&_}
+use mathlib.Core.Path.{_≡_, refl, ap, _∙_, subst}
+use mathlib.Core.Bool.{Bool, true}
 use mathlib.Core.List.{List, [], _∷_}
 use Prim.Native.Nat.{ℕ, zero, suc, _+_, _-_, _*_, _/_, _%_, _≤_, _<_}
 use native.Mathlib.Omega.{arith}
-use borrow.Author.Tests.{le-leb, eq-eqb, ne-eqb, eqb-true}
+use borrow.Author.Tests.{le-leb}
 use lib.Dec.{leb, eqb}
 use lib.ListN.{length, getD, take, drop, set, length-set}
 use lib.Seq.{getD-set-other, drop-set-lt, drop-set-add, take-set-le, take-set-lt}
 use Rattle.wire.specs.Choose.{choose}
 use Rattle.wire.specs.Buffer.{part}
-use Rattle.wire.specs.Word.{minus}
-use Rattle.wire.proofs.Cases.{yes, no, by-choice}
+use Rattle.wire.proofs.Cases.{by-choice}
 use Rattle.card.specs.Layout.{Card, iaAt, lecomAddressAt, loveAddressAt, loveAt, demandsAt, channels, parametersAt, parameterCount, keptAt, bufferAt, wordCount, memorySize, pendingSize}
-use Rattle.card.specs.Tables.{inSpan, allIn, fitAddresses, fitParameters, fitWords, fitPending, fit, loveLeast, loveHighest, demandMost, cycleLeast, cycleMost, floorMost, registerMost}
+use Rattle.card.specs.Tables.{inSpan, allIn, fitAddresses, fitParameters, fitWords, fitPending, fit, loveLeast, loveHighest, demandMost, cycleLeast, cycleMost, floorMost}
 use Rattle.card.specs.Reply.{Reply, WordsReply, onWords, shell, roomLeast}
 use Rattle.card.proofs.Facts.{and-true, allIn-set}
-use Rattle.lucid.specs.Form.{fits, channelsFrom, channelsOf, numberAt}
+use Rattle.lucid.specs.Form.{fits, channelsFrom, numberAt}
 use Rattle.lucid.specs.Frame.{asked, Placed}
-use Rattle.lucid.specs.Answer.{demanded, stored, cycleDefault, floorDefault, reset, answerTo, changed, obeyed, lucidWords, lucidReply}
+use Rattle.lucid.specs.Answer.{demanded, stored, cycleDefault, floorDefault, reset, changed, obeyed, lucidWords, lucidReply}
 use Rattle.lucid.specs.declared.frame.Order.{Order}
 use Rattle.lucid.specs.declared.frame.Order.the-variants.{Refused, GetIo, SetIo, GetParam, SetParam, Reset}
 use Rattle.lucid.proofs.Judged.{parameterFits, Ranged, safe}

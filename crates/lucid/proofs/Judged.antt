@@ -1,11 +1,11 @@
 -- What is known of a frame from what it was judged to ask: places within their tables, data of the right length. Assumes nothing.
-use mathlib.Core.Path.{_≡_, refl, sym, ap, _∙_, subst}
+use mathlib.Core.Path.{_≡_, refl, sym, ap, _∙_}
 use mathlib.Core.Bool.{Bool, true, false, not}
 use mathlib.Core.List.{List}
 use Prim.{Unit, tt}
-use Prim.Native.Nat.{ℕ, _+_, _*_, _%_, _≤_, _<_}
+use Prim.Native.Nat.{ℕ, _+_, _*_, _%_, _<_}
 use native.Mathlib.Omega.{arith}
-use borrow.Author.Tests.{eqb-true, eq-eqb, not-true}
+use borrow.Author.Tests.{eqb-true}
 use lib.Dec.{eqb}
 use lib.ListN.{length}
 use Rattle.wire.specs.Choose.{choose}
@@ -13,38 +13,7 @@ use Rattle.wire.proofs.Cases.{by-choice, yes, no}
 use Rattle.card.specs.Layout.{channels, parameterCount}
 use Rattle.card.specs.Tables.{inSpan, cycleLeast, cycleMost, floorMost}
 use Rattle.lucid.specs.Form.{fieldAt, getParam, cycleAddress, channelsOf, demand, demandSize, sizeOf}
-use Rattle.lucid.specs.Frame.{
-  isGet,
-  isSet,
-  isReset,
-  saves,
-  opcKnown,
-  channelRight,
-  maskRight,
-  typeKnown,
-  typeWritable,
-  optionRight,
-  maskOf,
-  lenFor,
-  addressIn,
-  valueIn,
-  inRange,
-  addressKnown,
-  valueRight,
-  placeOf,
-  orderedParameter,
-  ordered,
-  parameterAsked,
-  optionAsked,
-  asked,
-  opcIn,
-  p1In,
-  p2In,
-  lenIn,
-  Sized,
-  Placed,
-  Supplied,
-}
+use Rattle.lucid.specs.Frame.{isGet, isSet, isReset, opcKnown, channelRight, typeWritable, maskOf, lenFor, addressIn, valueIn, inRange, valueRight, placeOf, orderedParameter, ordered, parameterAsked, optionAsked, asked, opcIn, p1In, p2In, lenIn, Sized, Placed, Supplied}
 use Rattle.lucid.specs.declared.frame.Order.{Order}
 use Rattle.lucid.specs.declared.frame.Order.the-variants.{Refused, GetIo, SetIo, GetParam, SetParam, Reset}
 use Rattle.lucid.proofs.Bools.{or-right}

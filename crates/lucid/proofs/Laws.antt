@@ -1,27 +1,28 @@
 -- What holds of every LucidControl reply: a refusal changes no table; a failed probe is answered by the fault reply, a group's too; the
 -- reply depends on the probes asked for alone, and without one on no memory at all. Assumes nothing.
-use mathlib.Core.Path.{_≡_, refl, sym, ap, _∙_, subst}
-use mathlib.Core.Bool.{Bool, true, false, _&&_, not}
+use mathlib.Core.Path.{_≡_, refl, sym, ap}
+use mathlib.Core.Bool.{Bool, true, false, not}
 use mathlib.Core.List.{List, [], _∷_}
-use Prim.Native.Nat.{ℕ, zero, suc, _+_, _/_, _%_, _≤_, _<_}
+use Prim.Native.Nat.{ℕ, zero, suc, _+_, _*_, _/_, _%_, _^_, _<_}
 use native.Mathlib.Nat.{add-zero, zero-add, not-suc-le-zero, le-of-suc-le-suc}
 use native.Mathlib.Omega.{arith}
-use borrow.Author.Tests.{eq-eqb, eqb-true, eqb-false, not-true}
-use lib.Dec.{eqb}
+use borrow.Author.Tests.{eqb-false, not-true}
+use lib.Dec.{eqb, eqb→eq}
 use lib.ListN.{length, getD}
 use Rattle.wire.specs.Choose.{choose}
-use Rattle.wire.proofs.Cases.{yes, no, by-choice}
+use Rattle.wire.proofs.Cases.{yes, by-choice}
+use Rattle.wire.specs.Word.{minus, wordValues}
 use Rattle.card.specs.Numbers.{probeFault}
-use Rattle.card.specs.Layout.{Card, channels, demandsAt}
-use Rattle.card.specs.Probe.{faultCode, readingOf}
+use Rattle.card.specs.Layout.{Card, channels}
+use Rattle.card.specs.Probe.{faultCode, readingOf, tenthsOf}
 use Rattle.card.specs.Reply.{WordsReply, onWords, sent, shell, roomLeast, Keeps}
-use Rattle.card.specs.declared.probe.Reading.{Reading}
 use Rattle.card.specs.declared.probe.Reading.the-variants.{Fault}
 use Rattle.card.proofs.Facts.{and-true}
 use Rattle.card.proofs.Replies.{shell-keeps}
+use Rattle.card.proofs.Sweep.{at}
 use Rattle.lucid.specs.Form.{fits, channelsFrom, channelsOf, demand}
 use Rattle.lucid.specs.Frame.{asked}
-use Rattle.lucid.specs.Answer.{Values, Held, Failed, joined, group, valueOf, read, faulted, answerTo, changed, leaving, obeyed, lucidWords, lucidReply, named, readsProbe, asksProbe}
+use Rattle.lucid.specs.Answer.{Values, Held, Failed, joined, group, hundredthsOf, valueOf, read, faulted, answerTo, changed, leaving, obeyed, lucidWords, lucidReply, named, readsProbe, asksProbe}
 use Rattle.lucid.specs.declared.frame.Order.{Order}
 use Rattle.lucid.specs.declared.frame.Order.the-variants.{Refused, GetIo, SetIo, GetParam, SetParam, Reset}
 use Rattle.lucid.proofs.Groups.{value-fault}
@@ -139,3 +140,17 @@ asked-alone ws memory memory′ f same = by (fits (length f)) refl
 -- a frame that asks for no probe: the reply is the same for any two memories
 pub independent : (ws memory memory′ f : List ℕ) → ((channel : ℕ) → channel < channels → asksProbe f channel ≡ false) → lucidWords ws memory f ≡ lucidWords ws memory′ f
 independent ws memory memory′ f none = asked-alone ws memory memory′ f (λ channel h a. let z : _≡_ {A = ℕ} 0 1 = cc (none channel h) in let y : ⊥ = omega arith in absurd y)
+
+-- the mask of GetIo and SetIo names channel P1 alone
+pub one-channel : (channel : ℕ) → channel < channels → channelsOf (2 ^ channel) ≡ channel ∷ []
+unfolding channelsFrom choose
+one-channel zero h = refl
+one-channel (suc zero) h = refl
+one-channel (suc (suc zero)) h = refl
+one-channel (suc (suc (suc zero))) h = refl
+one-channel (suc (suc (suc (suc channel)))) h = let z : ⊥ = omega arith in absurd z
+
+-- a code 0 to 254 is (50 × code − 4,000) hundredths, as a word
+pub hundredths-of-code : (code : ℕ) → code < faultCode → hundredthsOf (record { 0 = tenthsOf code }) .0 ≡ (50 * code + minus 4000) % wordValues
+unfolding hundredthsOf tenthsOf
+hundredths-of-code code h = eqb→eq _ _ (at (λ n. eqb (hundredthsOf (record { 0 = tenthsOf n }) .0) ((50 * n + minus 4000) % wordValues)) faultCode tt code h)

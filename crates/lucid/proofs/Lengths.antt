@@ -4,13 +4,13 @@ use mathlib.Core.Bool.{Bool, true, false}
 use mathlib.Core.List.{List}
 use Prim.Native.Nat.{ℕ, _+_, _≤_, _<_}
 use native.Mathlib.Omega.{arith}
-use borrow.Author.Tests.{ltb-true, eqb-true, eq-eqb, ne-eqb}
+use borrow.Author.Tests.{ltb-true, eqb-true, ne-eqb}
 use lib.Dec.{eqb}
 use lib.ListN.{length}
 use Rattle.wire.specs.Choose.{choose}
 use Rattle.card.specs.Layout.{channels}
-use Rattle.lucid.specs.Form.{fieldAt, addressSize, parameterSize, getIo, getIoGroup, setIo, setIoGroup, setParam, getParam}
-use Rattle.lucid.specs.Frame.{isGet, isSet, isGroup, isParam, isReset, hasAddress, hasValue, opcKnown, channelRight, lenFor, Sized}
+use Rattle.lucid.specs.Form.{fieldAt, addressSize, parameterSize, getIo, setIo, setParam, getParam}
+use Rattle.lucid.specs.Frame.{isGet, isSet, isGroup, isParam, isReset, hasAddress, hasValue, lenFor, Sized}
 use Rattle.lucid.proofs.Bools.{or-left, or-right, or-false, but, both-but}
 
 len-set : (p1 p2 : ℕ) → isReset setParam p2 ≡ false → lenFor setParam p1 p2 ≡ addressSize + parameterSize

@@ -1,7 +1,7 @@
 -- What was written is the reply. Assumes nothing.
-use mathlib.Core.Path.{_≡_, refl, sym, ap, _∙_, subst}
+use mathlib.Core.Path.{_≡_, refl, sym, subst}
 use mathlib.Core.Bool.{true, false}
-use mathlib.Core.List.{List, []}
+use mathlib.Core.List.{List}
 use Prim.Native.Nat.{ℕ}
 use lib.ListN.{length}
 use Rattle.wire.proofs.Cases.{yes, no}
@@ -10,8 +10,7 @@ use Rattle.card.specs.Numbers.{frameForm}
 use Rattle.card.specs.Reply.{WordsReply, GaveWords}
 use Rattle.lucid.specs.Form.{fits}
 use Rattle.lucid.specs.Frame.{asked}
-use Rattle.lucid.specs.Answer.{Answer, Told, answerTo, changed, leaving, lucidWords}
-use Rattle.lucid.specs.declared.frame.Order.{Order}
+use Rattle.lucid.specs.Answer.{Answer, Told, answerTo, changed, lucidWords}
 
 -- an answer known under another name
 pub told-as : {out out′ : List ℕ} {number len : ℕ} (a b : Answer) → a ≡ b → Told a out number len out′ → Told b out number len out′

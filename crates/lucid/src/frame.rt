@@ -17,37 +17,7 @@ ghost use Prim.Native.Nat.{_+_, _<_, _≤_};
 ghost use lib.ListN.{length};
 ghost use Rattle.card.specs.Layout.{channels};
 ghost use Rattle.lucid.specs.Form.{channelsOf, numberAt, fieldAt, addressSize, parameterSize, shortest, getParam};
-ghost use Rattle.lucid.specs.Frame.{
-  isGet,
-  isSet,
-  isGroup,
-  isParam,
-  isReset,
-  saves,
-  opcKnown,
-  channelRight,
-  maskRight,
-  typeKnown,
-  typeWritable,
-  optionRight,
-  maskOf,
-  lenFor,
-  hasAddress,
-  hasValue,
-  addressIn,
-  valueIn,
-  addressKnown,
-  inRange,
-  valueRight,
-  placeOf,
-  orderedParameter,
-  ordered,
-  parameterAsked,
-  optionAsked,
-  asked,
-  lenIn,
-  Sized,
-};
+ghost use Rattle.lucid.specs.Frame.{isGet, isSet, isGroup, isParam, isReset, saves, opcKnown, channelRight, maskRight, typeKnown, typeWritable, optionRight, maskOf, lenFor, hasAddress, hasValue, valueIn, addressKnown, inRange, valueRight, placeOf, orderedParameter, ordered, parameterAsked, optionAsked, asked, lenIn, Sized};
 
 // Where the value of SetParam stands.
 const VALUE: usize = Lucid::DATA + Lucid::ADDRESS_SIZE as usize;

@@ -1,6 +1,6 @@
 // The answers that the master takes: an exact echo, and a read-back with everything as asked.
+use crate::accept;
 use crate::frame;
-use crate::request;
 use crate::request::Kind;
 use datalink::form::Datalink;
 ghost use mathlib.Core.Path.{_≡_};
@@ -68,7 +68,7 @@ fn all_asked(kind: Kind, sent: &[u8], states: &[u8], read: &[u8]) -> bool
     let mut ok = true;
     let mut i = 0;
     while i < sent.len() {
-        let asked = request::as_asked(kind, sent, states, read[i], i);
+        let asked = accept::as_asked(kind, sent, states, read[i], i);
         ok = ok & (asked == read[i]);
         i += 1;
     }

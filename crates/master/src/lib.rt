@@ -1,6 +1,7 @@
 // The Datalink line master. Document 01, "Datalink", second half.
-pub mod answer;
-pub mod frame;
+mod accept;
+mod answer;
+mod frame;
 pub mod request;
 
 use card::numbers::ANSWERED;
@@ -126,7 +127,7 @@ pub fn step(
 ) -> StepOutcome
     ensures { λ r. ⌜ Stepped (stepOf (requestOf kind ia address (now (sent .entry)) (now (states .entry))) phase (now (answer .entry)) (length (now (frame .entry)))) (now (frame .entry)) (r .number) (r .len) (r .phase) (now (frame .exit)) ⌝ }
 {
-    if !request::is_askable(kind, ia, address, sent, states) {
+    if !accept::is_askable(kind, ia, address, sent, states) {
         return without_frame(VALUE_OUTSIDE, phase);
     }
     if frame.len() < Datalink::LONGEST {

@@ -1,10 +1,9 @@
 -- Laws of specs/Entries.antt: the largest value of each kind of entry. Assumes nothing.
 use mathlib.Core.Path.{_≡_, sym}
-use Prim.Native.Nat.{ℕ, _+_, _≤_, _<_}
-use native.Mathlib.Omega.{arith}
+use Prim.Native.Nat.{ℕ, _≤_, _<_}
 use Rattle.wire.proofs.Cases.{cases}
 use Rattle.card.specs.Layout.{wordCount}
-use Rattle.tables.specs.Entries.{pendingFrom, addressEntry, mostOf}
+use Rattle.tables.specs.Entries.{addressEntry, mostOf}
 
 pub most-word : (entry : ℕ) → entry < wordCount → mostOf entry ≡ 4294967295
 unfolding mostOf

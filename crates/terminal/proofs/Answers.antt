@@ -1,21 +1,18 @@
 -- What an entry gave: its answer fits the buffer lent to it; the governor's degrees are a number. Assumes nothing.
-use mathlib.Core.Path.{_≡_, refl, sym, ap, _∙_, subst}
-use mathlib.Core.Bool.{Bool, true, not}
+use mathlib.Core.Bool.{Bool, not}
 use mathlib.Core.List.{List}
 use Prim.Native.Nat.{ℕ, zero, suc, _≤_}
 use native.Mathlib.Omega.{arith}
 use borrow.Author.Needs.{needs}
-use lib.Dec.{T, ltb, eqb}
+use lib.Dec.{T}
 use lib.Ieee.{odd, isNan}
 use lib.ListN.{length, getD, length-append}
-use Rattle.wire.specs.Choose.{choose}
 use Rattle.wire.specs.Buffer.{overlay}
 use Rattle.wire.proofs.Cases.{by-choice}
 use Rattle.card.specs.Layout.{Card}
 use Rattle.card.specs.Reply.{Reply, Gave}
 use Rattle.master.specs.declared.Phase.{Phase}
 use Rattle.master.specs.Step.{Move, Stepped}
-use Rattle.card.specs.declared.governor.Governor.{Governor}
 use Rattle.card.specs.declared.governor.Governor.the-variants.{Degrees}
 use Rattle.card.specs.Governor.{degreesOf, toldOf, governorOf}
 use Rattle.lines.specs.Text.{isReal}

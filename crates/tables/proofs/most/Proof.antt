@@ -1,21 +1,17 @@
+-- `tables::most` meets its contract. Assumes nothing.
 use Rattle.tables.specs.Entries.{mostOf}
 use Rattle.wire.proofs.Cases.{cases}
 use borrow.Author.Needs.{needs}
 use Rattle.tables.proofs.most.Statement.{statement}
 use Rattle.tables.proofs.most.Tie as tie
-use Rattle.tables.proofs.most.Reads as reads
-use Rattle.tables.proofs.most.Lts as lts
 
--- src/tables.rt:146:17
 add-if1 : tie.Need-add-if1
 add-if1 c = search needs
 
--- src/tables.rt:147:9
 returns : tie.Need-returns
 unfolding mostOf
 returns c = search cases
 
--- src/tables.rt:142:1
 returns-2 : tie.Need-returns-2
 unfolding mostOf
 returns-2 c = search cases

@@ -1,58 +1,45 @@
-use mathlib.Core.Path.{_≡_, refl, sym, ap, _∙_}
-use Prim.Native.Nat.{ℕ, _≤_, _<_, _-_, _+_, _*_}
+-- `tables::store_change` meets its contract. Assumes nothing.
+use mathlib.Core.Path.{_≡_, ap, _∙_}
+use Prim.Native.Nat.{ℕ, _+_}
 use native.Mathlib.Omega.{arith}
 use Rattle.tables.specs.Entries.{pendingFrom, mostOf}
 use Rattle.tables.proofs.Mosts.{most-address, most-byte}
 use borrow.Author.Needs.{needs}
 use Rattle.tables.proofs.store_change.Statement.{statement}
 use Rattle.tables.proofs.store_change.Tie as tie
-use Rattle.tables.proofs.store_change.Reads as reads
-use Rattle.tables.proofs.store_change.Lts as lts
-use Rattle.tables.proofs.index.Reads as index-reads
 
--- src/tables.rt:211:32
 cast-pending : tie.Need-cast-pending
 cast-pending c = search needs
 
--- src/tables.rt:211:9
 slice-write-pending : tie.Need-slice-write-pending
 slice-write-pending c = search needs
 
--- src/tables.rt:212:33
 cast-pending-2 : tie.Need-cast-pending-2
 cast-pending-2 c =
     let e : mostOf (pendingFrom + c .before .before .args .place) ≡ 65535 = ap (λ (k : ℕ). mostOf (pendingFrom + k)) (c .if1 .taken) ∙ most-address in
     omega arith
 
--- src/tables.rt:212:9
 slice-write-pending-2 : tie.Need-slice-write-pending-2
 slice-write-pending-2 c = search needs
 
--- src/tables.rt:213:9
 same-length : tie.Need-same-length
 same-length c = search needs
 
--- src/tables.rt:213:9
 returns : tie.Need-returns
 returns c = search needs
 
--- src/tables.rt:215:9
 index-requires : tie.Need-index-requires
 index-requires c κs = search needs
 
--- src/tables.rt:216:18
 cast-pending-3 : tie.Need-cast-pending-3
 cast-pending-3 c = omega (arith, most-byte (pendingFrom + c .before .before .before .args .place) (omega arith) (λ e. c .before .if1 .left (omega arith)))
 
--- src/tables.rt:216:5
 slice-write-pending-3 : tie.Need-slice-write-pending-3
 slice-write-pending-3 c = search needs
 
--- src/tables.rt:207:1
 same-length-2 : tie.Need-same-length-2
 same-length-2 c = search needs
 
--- src/tables.rt:207:1
 returns-2 : tie.Need-returns-2
 returns-2 c = search needs
 

@@ -1,60 +1,45 @@
+-- `terminal::finish` meets its contract. Assumes nothing.
 use lib.ListN.{length-take}
 use native.Mathlib.Omega.{arith}
 use lib.Seq.{length-take-le}
-use mathlib.Core.Path.{_≡_, refl, sym, ap, _∙_}
+use mathlib.Core.Path.{sym}
 use borrow.Author.Needs.{needs}
 use Rattle.terminal.proofs.finish.Statement.{statement}
 use Rattle.terminal.proofs.finish.Tie as tie
-use Rattle.terminal.proofs.finish.Reads as reads
-use Rattle.terminal.proofs.finish.Lts as lts
-use Rattle.terminal.proofs.answer.Reads as answer-reads
-use Rattle.lines.proofs.text.put_words.Reads as put-words-reads
 
--- src/lib.rt:186:43
 slice-aggregate-put-words : tie.Need-slice-aggregate-put-words
 slice-aggregate-put-words c = search needs
 
--- src/lib.rt:186:13
 put-words-requires : tie.Need-put-words-requires
 put-words-requires c κs = search needs
 
--- src/lib.rt:187:9
 same-length : tie.Need-same-length
 same-length c = search needs
 
--- src/lib.rt:187:9
 returns : tie.Need-returns
 returns c = search needs
 
--- src/lib.rt:189:46
 slice-aggregate-answer : tie.Need-slice-aggregate-answer
 slice-aggregate-answer c = sym (length-take-le _ _ (search needs))
 
--- src/lib.rt:189:5
 answer-requires : tie.Need-answer-requires
 answer-requires c κs = ((search needs, record { inside = search needs; short = simp length-take (omega arith); room = search needs }), (search needs, search needs))
 
--- src/lib.rt:172:1
 same-length-2 : tie.Need-same-length-2
 same-length-2 c = search needs
 
--- src/lib.rt:172:1
 same-length-3 : tie.Need-same-length-3
 same-length-3 c = search needs
 
--- src/lib.rt:172:1
 same-length-4 : tie.Need-same-length-4
 same-length-4 c = search needs
 
--- src/lib.rt:172:1
 same-length-5 : tie.Need-same-length-5
 same-length-5 c = search needs
 
--- src/lib.rt:172:1
 same-length-6 : tie.Need-same-length-6
 same-length-6 c = search needs
 
--- src/lib.rt:172:1
 returns-2 : tie.Need-returns-2
 returns-2 c = search needs
 

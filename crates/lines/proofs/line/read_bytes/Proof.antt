@@ -1,14 +1,11 @@
-use mathlib.Core.Path.{_≡_, refl, sym, ap, _∙_}
+-- `lines::line::read_bytes` meets its contract. Assumes nothing.
+use mathlib.Core.Path.{_≡_}
 use borrow.Author.Needs.{needs}
 use lib.ListN.{length, length-set}
 use native.Mathlib.Omega.{arith}
-use Prim.Native.Nat.{ℕ, _≤_, _<_, _-_, _+_, _*_}
+use Prim.Native.Nat.{_≤_, _-_, _*_}
 use Rattle.lines.proofs.line.read_bytes.Statement.{statement}
 use Rattle.lines.proofs.line.read_bytes.Tie as tie
-use Rattle.lines.proofs.line.read_bytes.Reads as reads
-use Rattle.lines.proofs.line.read_bytes.Lts as lts
-use Rattle.lines.proofs.line.byte_at.Reads as byte-at-reads
-use Rattle.lines.proofs.line.next_word.Reads as next-word-reads
 
 abbrev Inv-loop : tie.InvT-loop
 Inv-loop s at to₀ next₀ count₀ to next count = ((at ≤ next) × (next ≤ length s)) × ((2 * count ≤ next - at) × (length to ≡ length to₀))
@@ -16,55 +13,42 @@ Inv-loop s at to₀ next₀ count₀ to next count = ((at ≤ next) × (next ≤
 abbrev μ-loop : tie.MeasureT-loop
 μ-loop s at to₀ next₀ count₀ to next count = length s - next
 
--- src/line.rt:146:5
 loop-holds : tie.Need-loop-holds Inv-loop μ-loop
 loop-holds c = search needs
 
--- src/line.rt:147:13
 byte-at-requires : tie.Need-byte-at-requires Inv-loop μ-loop
 byte-at-requires c κs = search needs
 
--- src/line.rt:149:13
 same-length : tie.Need-same-length Inv-loop μ-loop
 same-length c = search needs
 
--- src/line.rt:149:13
 returns : tie.Need-returns Inv-loop μ-loop
 returns c = search needs
 
--- src/line.rt:151:21
 cast-to : tie.Need-cast-to Inv-loop μ-loop
 cast-to c = search needs
 
--- src/line.rt:151:9
 slice-write-to : tie.Need-slice-write-to Inv-loop μ-loop
 slice-write-to c = search needs
 
--- src/line.rt:152:9
 add-count : tie.Need-add-count Inv-loop μ-loop
 add-count c = search needs
 
--- src/line.rt:153:29
 add-next-word : tie.Need-add-next-word Inv-loop μ-loop
 add-next-word c = omega (arith, c .before .byte-at .ensures .1 (omega arith))
 
--- src/line.rt:153:9
 next-word-requires : tie.Need-next-word-requires Inv-loop μ-loop
 next-word-requires c κs = omega (arith, c .before .byte-at .ensures .1 (omega arith))
 
--- src/line.rt:146:5
 loop-less : tie.Need-loop-less Inv-loop μ-loop
 loop-less c = omega (arith, c .before .before .byte-at .ensures .1 (omega arith))
 
--- src/line.rt:146:5
 loop-again : tie.Need-loop-again Inv-loop μ-loop
 loop-again c = (search needs, (omega (arith, c .before .before .byte-at .ensures .1 (omega arith)), simp length-set (omega arith)))
 
--- src/line.rt:140:1
 same-length-2 : tie.Need-same-length-2 Inv-loop μ-loop
 same-length-2 c = search needs
 
--- src/line.rt:140:1
 returns-2 : tie.Need-returns-2 Inv-loop μ-loop
 returns-2 c = search needs
 

@@ -1,70 +1,54 @@
+-- `lines::text::put_bits` meets its contract. Assumes nothing.
 use Rattle.lines.proofs.Puts.{put-eight, eight-length}
 use Rattle.figures.specs.Figure.{pairOf}
 use Rattle.wire.specs.Buffer.{put}
 use mathlib.Core.List.{List}
-use mathlib.Core.Path.{_≡_, refl, sym, ap, _∙_}
+use mathlib.Core.Path.{ap, _∙_}
 use native.Mathlib.Omega.{arith}
 use Prim.Native.Nat.{ℕ, _+_, _/_, _%_}
 use borrow.Author.Needs.{needs}
 use Rattle.lines.proofs.text.put_bits.Statement.{statement}
 use Rattle.lines.proofs.text.put_bits.Tie as tie
-use Rattle.lines.proofs.text.put_bits.Reads as reads
-use Rattle.lines.proofs.text.put_bits.Lts as lts
-use Rattle.figures.proofs.put_pair.Reads as put-pair-reads
 
--- src/text.rt:83:32
 cast-put-pair : tie.Need-cast-put-pair
 cast-put-pair c = search needs
 
--- src/text.rt:83:5
 put-pair-requires : tie.Need-put-pair-requires
 put-pair-requires c κs = search needs
 
--- src/text.rt:84:28
 add-put-pair : tie.Need-add-put-pair
 add-put-pair c = search needs
 
--- src/text.rt:84:36
 cast-put-pair-2 : tie.Need-cast-put-pair-2
 cast-put-pair-2 c = search needs
 
--- src/text.rt:84:5
 put-pair-requires-2 : tie.Need-put-pair-requires-2
 put-pair-requires-2 c κs = search needs
 
--- src/text.rt:85:28
 add-put-pair-2 : tie.Need-add-put-pair-2
 add-put-pair-2 c = search needs
 
--- src/text.rt:85:36
 cast-put-pair-3 : tie.Need-cast-put-pair-3
 cast-put-pair-3 c = search needs
 
--- src/text.rt:85:5
 put-pair-requires-3 : tie.Need-put-pair-requires-3
 put-pair-requires-3 c κs = search needs
 
--- src/text.rt:86:28
 add-put-pair-3 : tie.Need-add-put-pair-3
 add-put-pair-3 c = search needs
 
--- src/text.rt:86:36
 cast-put-pair-4 : tie.Need-cast-put-pair-4
 cast-put-pair-4 c = search needs
 
--- src/text.rt:86:5
 put-pair-requires-4 : tie.Need-put-pair-requires-4
 put-pair-requires-4 c κs = search needs
 
--- src/text.rt:87:5
 add-result : tie.Need-add-result
 add-result c = search needs
 
--- src/text.rt:79:1
 same-length : tie.Need-same-length
 same-length c = search needs
 
--- src/text.rt:79:1
 returns : tie.Need-returns
 returns c =
     let f₄ = c .before .before .put-pair4 in

@@ -1,3 +1,4 @@
+-- `lines::text::put_bytes` meets its contract. Assumes nothing.
 use Rattle.lines.proofs.Puts.{put-none, byte-next, spaced-length}
 use Rattle.lines.specs.Text.{space, spaced}
 use Rattle.figures.specs.Figure.{pairOf}
@@ -7,14 +8,11 @@ use mathlib.Core.List.{List}
 use lib.Seq.{take-length}
 use lib.ListN.{length, length-set, take, set, getD}
 use borrow.Author.Needs.{needs}
-use mathlib.Core.Path.{_≡_, refl, sym, ap, _∙_}
+use mathlib.Core.Path.{_≡_, ap, _∙_}
 use native.Mathlib.Omega.{arith}
-use Prim.Native.Nat.{ℕ, _≤_, _<_, _-_, _+_, _*_}
+use Prim.Native.Nat.{ℕ, _≤_, _-_, _+_, _*_}
 use Rattle.lines.proofs.text.put_bytes.Statement.{statement}
 use Rattle.lines.proofs.text.put_bytes.Tie as tie
-use Rattle.lines.proofs.text.put_bytes.Reads as reads
-use Rattle.lines.proofs.text.put_bytes.Lts as lts
-use Rattle.figures.proofs.put_pair.Reads as put-pair-reads
 
 abbrev Inv-loop : tie.InvT-loop
 Inv-loop out₀ at bytes i₀ out i = (i ≤ length bytes) × ((length out ≡ length out₀) × (out ≡ put out₀ at (spaced (take i bytes))))
@@ -22,51 +20,39 @@ Inv-loop out₀ at bytes i₀ out i = (i ≤ length bytes) × ((length out ≡ l
 abbrev μ-loop : tie.MeasureT-loop
 μ-loop out₀ at bytes i₀ out i = length bytes - i
 
--- src/text.rt:53:5
 loop-holds : tie.Need-loop-holds Inv-loop μ-loop
 loop-holds c = (search needs, (search needs, put-none (c .before .before .args .out .now) (c .before .before .args .at)))
 
--- src/text.rt:54:18
 mul-out : tie.Need-mul-out Inv-loop μ-loop
 mul-out c = omega arith
 
--- src/text.rt:54:13
 add-out : tie.Need-add-out Inv-loop μ-loop
 add-out c = omega arith
 
--- src/text.rt:54:9
 slice-write-out : tie.Need-slice-write-out Inv-loop μ-loop
 slice-write-out c = omega arith
 
--- src/text.rt:55:37
 mul-put-pair : tie.Need-mul-put-pair Inv-loop μ-loop
 mul-put-pair c = omega arith
 
--- src/text.rt:55:32
 add-put-pair : tie.Need-add-put-pair Inv-loop μ-loop
 add-put-pair c = omega arith
 
--- src/text.rt:55:32
 add-put-pair-2 : tie.Need-add-put-pair-2 Inv-loop μ-loop
 add-put-pair-2 c = omega arith
 
--- src/text.rt:55:48
 shared-slice-read-put-pair : tie.Need-shared-slice-read-put-pair Inv-loop μ-loop
 shared-slice-read-put-pair c = search needs
 
--- src/text.rt:55:9
 put-pair-requires : tie.Need-put-pair-requires Inv-loop μ-loop
 put-pair-requires c κs = simp length-set (omega arith)
 
--- src/text.rt:56:9
 add-i : tie.Need-add-i Inv-loop μ-loop
 add-i c = omega arith
 
--- src/text.rt:53:5
 loop-less : tie.Need-loop-less Inv-loop μ-loop
 loop-less c = omega arith
 
--- src/text.rt:53:5
 loop-again : tie.Need-loop-again Inv-loop μ-loop
 loop-again c =
     let at-loop = c .before .before .before .before .before .before in
@@ -81,19 +67,15 @@ loop-again c =
       ),
     )
 
--- src/text.rt:58:10
 mul-result : tie.Need-mul-result Inv-loop μ-loop
 mul-result c = omega arith
 
--- src/text.rt:58:5
 add-result : tie.Need-add-result Inv-loop μ-loop
 add-result c = omega arith
 
--- src/text.rt:48:1
 same-length : tie.Need-same-length Inv-loop μ-loop
 same-length c = omega arith
 
--- src/text.rt:48:1
 returns : tie.Need-returns Inv-loop μ-loop
 returns c =
     let a = c .before .before .before .before .args in

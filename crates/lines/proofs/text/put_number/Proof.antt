@@ -1,34 +1,26 @@
+-- `lines::text::put_number` meets its contract. Assumes nothing.
 use Rattle.figures.proofs.Decimals.{size-at-most, shortest-length}
 use Rattle.figures.specs.Decimal.{digits, sizeOf, shortest}
 use Rattle.wire.specs.Buffer.{put}
-use mathlib.Core.Path.{_≡_, refl, sym, ap, _∙_}
+use mathlib.Core.Path.{_≡_, sym, ap, _∙_}
 use native.Mathlib.Omega.{arith}
-use Prim.Native.Nat.{ℕ, _≤_, _<_, _-_, _+_, _*_}
+use Prim.Native.Nat.{ℕ, _+_}
 use borrow.Author.Needs.{needs}
 use Rattle.lines.proofs.text.put_number.Statement.{statement}
 use Rattle.lines.proofs.text.put_number.Tie as tie
-use Rattle.lines.proofs.text.put_number.Reads as reads
-use Rattle.lines.proofs.text.put_number.Lts as lts
-use Rattle.figures.proofs.put_digits.Reads as put-digits-reads
-use Rattle.figures.proofs.size.Reads as size-reads
 
--- src/text.rt:31:9
 size-requires : tie.Need-size-requires
 size-requires c κs = search needs
 
--- src/text.rt:32:5
 put-digits-requires : tie.Need-put-digits-requires
 put-digits-requires c κs = omega (arith, c .before .size .ensures, size-at-most 9 (c .before .before .before .args .n) (omega arith))
 
--- src/text.rt:33:5
 add-result : tie.Need-add-result
 add-result c = omega (arith, c .before .before .before .before .size .ensures, size-at-most 9 (c .before .before .before .before .before .before .args .n) (omega arith))
 
--- src/text.rt:27:1
 same-length : tie.Need-same-length
 same-length c = search needs
 
--- src/text.rt:27:1
 returns : tie.Need-returns
 unfolding shortest
 returns c =

@@ -1,3 +1,4 @@
+-- `lines::text::put_verdict` meets its contract. Assumes nothing.
 use Rattle.lines.proofs.Puts.{put-as, put-within}
 use Rattle.lines.specs.Text.{verdictOf}
 use native.Mathlib.Omega.{arith}
@@ -5,69 +6,51 @@ use mathlib.Core.Path.{sym, ap}
 use borrow.Author.Needs.{needs}
 use Rattle.lines.proofs.text.put_verdict.Statement.{statement}
 use Rattle.lines.proofs.text.put_verdict.Tie as tie
-use Rattle.lines.proofs.text.put_verdict.Reads as reads
-use Rattle.lines.proofs.text.put_verdict.Lts as lts
-use Rattle.lines.proofs.text.put_words.Reads as put-words-reads
 
--- src/text.rt:118:36
 enum-told : tie.Need-enum-told
 enum-told c = search needs
 
--- src/text.rt:118:45
 slice-aggregate-put-words : tie.Need-slice-aggregate-put-words
 slice-aggregate-put-words c = search needs
 
--- src/text.rt:118:26
 put-words-requires : tie.Need-put-words-requires
 put-words-requires c κs = search needs
 
--- src/text.rt:119:36
 enum-told-2 : tie.Need-enum-told-2
 enum-told-2 c = search needs
 
--- src/text.rt:119:45
 slice-aggregate-put-words-2 : tie.Need-slice-aggregate-put-words-2
 slice-aggregate-put-words-2 c = search needs
 
--- src/text.rt:119:26
 put-words-requires-2 : tie.Need-put-words-requires-2
 put-words-requires-2 c κs = search needs
 
--- src/text.rt:120:39
 enum-told-3 : tie.Need-enum-told-3
 enum-told-3 c = search needs
 
--- src/text.rt:120:48
 slice-aggregate-put-words-3 : tie.Need-slice-aggregate-put-words-3
 slice-aggregate-put-words-3 c = search needs
 
--- src/text.rt:120:29
 put-words-requires-3 : tie.Need-put-words-requires-3
 put-words-requires-3 c κs = search needs
 
--- src/text.rt:113:1
 same-length : tie.Need-same-length
 same-length c = search needs
 
--- src/text.rt:113:1
 returns : tie.Need-returns
 unfolding verdictOf
 returns c = put-as (ap verdictOf (sym (c .before .before .before .before .before .enum-told .given .1))) (put-within (omega arith) (c .before .before .put-words .ensures))
 
--- src/text.rt:113:1
 same-length-2 : tie.Need-same-length-2
 same-length-2 c = search needs
 
--- src/text.rt:113:1
 returns-2 : tie.Need-returns-2
 unfolding verdictOf
 returns-2 c = put-as (ap verdictOf (sym (c .before .before .before .before .before .enum-told2 .given .1))) (put-within (omega arith) (c .before .before .put-words2 .ensures))
 
--- src/text.rt:113:1
 same-length-3 : tie.Need-same-length-3
 same-length-3 c = search needs
 
--- src/text.rt:113:1
 returns-3 : tie.Need-returns-3
 unfolding verdictOf
 returns-3 c = put-as (ap verdictOf (sym (c .before .before .before .before .before .enum-told3 .given .1))) (put-within (omega arith) (c .before .before .put-words3 .ensures))

@@ -1,40 +1,29 @@
+-- `lines::text::tell_bits` meets its contract. Assumes nothing.
 use Rattle.figures.specs.Decimal.{shortest}
 use Rattle.card.specs.Numbers.{answered}
 use Rattle.lines.proofs.Puts.{put-as, put-then, values-one}
 use borrow.Author.Needs.{needs}
 use Rattle.lines.proofs.text.tell_bits.Statement.{statement}
 use Rattle.lines.proofs.text.tell_bits.Tie as tie
-use Rattle.lines.proofs.text.tell_bits.Reads as reads
-use Rattle.lines.proofs.text.tell_bits.Lts as lts
-use Rattle.lines.proofs.text.put_bits.Reads as put-bits-reads
-use Rattle.lines.proofs.text.put_number.Reads as put-number-reads
-use Rattle.lines.proofs.text.put_words.Reads as put-words-reads
 
--- src/text.rt:95:37
 cast-put-number : tie.Need-cast-put-number
 cast-put-number c = search needs
 
--- src/text.rt:95:9
 put-number-requires : tie.Need-put-number-requires
 put-number-requires c κs = search needs
 
--- src/text.rt:96:40
 slice-aggregate-put-words : tie.Need-slice-aggregate-put-words
 slice-aggregate-put-words c = search needs
 
--- src/text.rt:96:9
 put-words-requires : tie.Need-put-words-requires
 put-words-requires c κs = search needs
 
--- src/text.rt:97:5
 put-bits-requires : tie.Need-put-bits-requires
 put-bits-requires c κs = search needs
 
--- src/text.rt:91:1
 same-length : tie.Need-same-length
 same-length c = search needs
 
--- src/text.rt:91:1
 returns : tie.Need-returns
 returns c =
     let bits = c .before .before .put-bits .ensures in

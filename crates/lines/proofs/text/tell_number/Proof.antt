@@ -1,20 +1,15 @@
+-- `lines::text::tell_number` meets its contract. Assumes nothing.
 use Rattle.lines.proofs.Puts.{put-as, told-none}
 use borrow.Author.Needs.{needs}
 use Rattle.lines.proofs.text.tell_number.Statement.{statement}
 use Rattle.lines.proofs.text.tell_number.Tie as tie
-use Rattle.lines.proofs.text.tell_number.Reads as reads
-use Rattle.lines.proofs.text.tell_number.Lts as lts
-use Rattle.lines.proofs.text.put_number.Reads as put-number-reads
 
--- src/text.rt:75:5
 put-number-requires : tie.Need-put-number-requires
 put-number-requires c κs = search needs
 
--- src/text.rt:71:1
 same-length : tie.Need-same-length
 same-length c = search needs
 
--- src/text.rt:71:1
 returns : tie.Need-returns
 returns c = put-as (told-none _) (c .before .before .put-number .ensures)
 

@@ -1,68 +1,52 @@
+-- `lines::text::tell_reading` meets its contract. Assumes nothing.
 use Rattle.lines.proofs.Puts.{put-as, put-within}
 use Rattle.lines.specs.Text.{reading, told, spaced, values, isReal}
 use Rattle.card.specs.declared.governor.Governor.{Governor}
 use lib.Dec.{T}
 use native.Mathlib.Omega.{arith}
-use mathlib.Core.Path.{_≡_, sym, ap, subst}
+use mathlib.Core.Path.{sym, ap, subst}
 use borrow.Author.Needs.{needs}
 use Rattle.lines.proofs.text.tell_reading.Statement.{statement}
 use Rattle.lines.proofs.text.tell_reading.Tie as tie
-use Rattle.lines.proofs.text.tell_reading.Reads as reads
-use Rattle.lines.proofs.text.tell_reading.Lts as lts
-use Rattle.lines.proofs.text.tell_bits.Reads as tell-bits-reads
-use Rattle.lines.proofs.text.tell_number.Reads as tell-number-reads
 
--- src/text.rt:106:27
 enum-known-told : tie.Need-enum-known-told
 enum-known-told c = search needs
 
--- src/text.rt:106:48
 float-to-bits-tell-bits : tie.Need-float-to-bits-tell-bits
 float-to-bits-tell-bits c = subst (λ (g : Governor). T (isReal g)) (c .before .before .told .given .1) (c .before .before .before .before .before .pre .0)
 
--- src/text.rt:106:33
 tell-bits-requires : tie.Need-tell-bits-requires
 tell-bits-requires c κs = search needs
 
--- src/text.rt:107:40
 enum-told : tie.Need-enum-told
 enum-told c = search needs
 
--- src/text.rt:107:28
 tell-number-requires : tie.Need-tell-number-requires
 tell-number-requires c κs = search needs
 
--- src/text.rt:108:27
 enum-known-told-2 : tie.Need-enum-known-told-2
 enum-known-told-2 c = search needs
 
--- src/text.rt:108:38
 tell-number-requires-2 : tie.Need-tell-number-requires-2
 tell-number-requires-2 c κs = search needs
 
--- src/text.rt:101:1
 same-length : tie.Need-same-length
 same-length c = search needs
 
--- src/text.rt:101:1
 returns : tie.Need-returns
 unfolding reading
 returns c = put-as (ap reading (sym (c .before .before .before .before .before .told .given .1))) (c .before .before .tell-bits .ensures)
 
--- src/text.rt:101:1
 same-length-2 : tie.Need-same-length-2
 same-length-2 c = search needs
 
--- src/text.rt:101:1
 returns-2 : tie.Need-returns-2
 unfolding reading told spaced values
 returns-2 c = put-as (ap reading (sym (c .before .before .before .before .enum-told .given .1))) (put-within (omega arith) (c .before .before .tell-number .ensures))
 
--- src/text.rt:101:1
 same-length-3 : tie.Need-same-length-3
 same-length-3 c = search needs
 
--- src/text.rt:101:1
 returns-3 : tie.Need-returns-3
 unfolding reading told spaced values
 returns-3 c = put-as (ap reading (sym (c .before .before .before .before .before .told2 .given .1))) (put-within (omega arith) (c .before .before .tell-number2 .ensures))

@@ -1,3 +1,4 @@
+-- `lines::text::tell_step` meets its contract. Assumes nothing.
 use Rattle.lines.proofs.Puts.{put-then, put-within}
 use Rattle.lines.specs.Text.{stepped}
 use lib.ListN.{length-take}
@@ -5,33 +6,22 @@ use native.Mathlib.Omega.{arith}
 use borrow.Author.Needs.{needs}
 use Rattle.lines.proofs.text.tell_step.Statement.{statement}
 use Rattle.lines.proofs.text.tell_step.Tie as tie
-use Rattle.lines.proofs.text.tell_step.Reads as reads
-use Rattle.lines.proofs.text.tell_step.Lts as lts
-use Rattle.lines.proofs.text.put_bytes.Reads as put-bytes-reads
-use Rattle.lines.proofs.text.put_number.Reads as put-number-reads
-use Rattle.lines.proofs.text.put_verdict.Reads as put-verdict-reads
 
--- src/text.rt:130:9
 put-number-requires : tie.Need-put-number-requires
 put-number-requires c κs = search needs
 
--- src/text.rt:131:9
 put-verdict-requires : tie.Need-put-verdict-requires
 put-verdict-requires c κs = search needs
 
--- src/text.rt:132:26
 slice-aggregate-put-bytes : tie.Need-slice-aggregate-put-bytes
 slice-aggregate-put-bytes c = simp length-take (omega arith)
 
--- src/text.rt:132:5
 put-bytes-requires : tie.Need-put-bytes-requires
 put-bytes-requires c κs = simp length-take (omega arith)
 
--- src/text.rt:126:1
 same-length : tie.Need-same-length
 same-length c = search needs
 
--- src/text.rt:126:1
 returns : tie.Need-returns
 unfolding stepped
 returns c =

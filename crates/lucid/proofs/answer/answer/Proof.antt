@@ -3,7 +3,7 @@ use Rattle.lucid.proofs.Replies.{told-as}
 use Rattle.lucid.proofs.Orders.{set-done}
 use Rattle.lucid.specs.Answer.{answerTo}
 use Rattle.lucid.specs.Frame.{Placed}
-use mathlib.Core.Path.{sym, ap, _∙_, subst}
+use mathlib.Core.Path.{sym, ap, subst}
 use borrow.Author.Needs.{needs}
 use Rattle.lucid.proofs.answer.answer.Statement.{statement}
 use Rattle.lucid.proofs.answer.answer.Tie as tie

@@ -5,7 +5,7 @@ use Rattle.lucid.specs.Form.{little}
 use Rattle.lucid.specs.Answer.{temperatureIn}
 use Rattle.wire.proofs.Cases.{yes, no}
 use borrow.Author.Tests.{eq-eqb, ne-eqb}
-use mathlib.Core.Path.{_≡_, refl, ap}
+use mathlib.Core.Path.{refl, ap}
 use borrow.Author.Needs.{needs}
 use Rattle.lucid.proofs.answer.put_temperature.Statement.{statement}
 use Rattle.lucid.proofs.answer.put_temperature.Tie as tie

@@ -8,7 +8,7 @@ use Rattle.lucid.specs.Answer.{Held, joined, group, valueOf, read}
 use Rattle.lucid.specs.Form.{channelsOf}
 use lib.ListN.{length, take}
 use mathlib.Core.Path.{_≡_, refl, sym, ap, _∙_}
-use Prim.Native.Nat.{ℕ, _+_, _-_, _*_, _≤_}
+use Prim.Native.Nat.{_-_, _*_, _≤_}
 use borrow.Author.Needs.{needs}
 use native.Mathlib.Omega.{arith}
 use Rattle.lucid.proofs.answer.read_channels.Statement.{statement}

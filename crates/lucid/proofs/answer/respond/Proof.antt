@@ -5,7 +5,7 @@ use lib.Seq.{length-take-le}
 use lib.ListN.{take, length-set, length-take}
 use mathlib.Core.List.{_∷_}
 use mathlib.Core.Path.{refl, sym, ap, _∙_}
-use Prim.Native.Nat.{ℕ, _+_}
+use Prim.Native.Nat.{ℕ}
 use native.Mathlib.Omega.{arith}
 use borrow.Author.Needs.{needs}
 use Rattle.lucid.proofs.answer.respond.Statement.{statement}

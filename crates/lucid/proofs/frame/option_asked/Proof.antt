@@ -1,7 +1,7 @@
 -- `lucid::frame::option_asked` meets its contract, test by test. Assumes nothing.
 use Prim.Native.Nat.{ℕ, _+_}
 use borrow.Author.Tests.{eq-eqb, ne-eqb}
-use mathlib.Core.Path.{_≡_, refl, sym, ap, _∙_}
+use mathlib.Core.Path.{sym, ap, _∙_}
 use Rattle.lucid.specs.Frame.{lenIn, optionAsked}
 use Rattle.wire.proofs.Cases.{yes, no, told-yes, told-no}
 use borrow.Author.Needs.{needs}

@@ -1,5 +1,5 @@
 -- `lucid::frame::ordered` meets its contract, test by test. Assumes nothing.
-use mathlib.Core.Path.{_≡_, refl, sym, ap, _∙_}
+use mathlib.Core.Path.{ap, _∙_}
 use Rattle.lucid.specs.declared.frame.Order.the-variants.{SetIo, Reset}
 use Rattle.lucid.proofs.Lengths.{parameter-within}
 use Rattle.lucid.specs.Frame.{ordered}

@@ -1,6 +1,6 @@
 -- `lucid::frame::ordered_parameter` meets its contract, test by test. Assumes nothing.
 use borrow.Author.Tests.{ne-eqb}
-use mathlib.Core.Path.{_≡_, refl, sym, ap, _∙_}
+use mathlib.Core.Path.{ap, _∙_}
 use Rattle.lucid.specs.declared.frame.Order.the-variants.{GetParam}
 use Rattle.lucid.specs.Frame.{placeOf, orderedParameter}
 use Rattle.wire.proofs.Cases.{cases, no}

@@ -1,32 +1,25 @@
+-- `tables::start::start_memory` meets its contract. Assumes nothing.
 use lib.ListN.{length-set}
 use native.Mathlib.Omega.{arith}
 use borrow.Author.Needs.{needs}
 use Rattle.tables.proofs.start.start_memory.Statement.{statement}
 use Rattle.tables.proofs.start.start_memory.Tie as tie
-use Rattle.tables.proofs.start.start_memory.Reads as reads
-use Rattle.tables.proofs.start.start_memory.Lts as lts
 
--- src/start.rt:45:5
 slice-write-memory : tie.Need-slice-write-memory
 slice-write-memory c = rw (c .pre) (omega arith)
 
--- src/start.rt:46:5
 slice-write-memory-2 : tie.Need-slice-write-memory-2
 slice-write-memory-2 c = simp length-set (rw (c .pre) (omega arith))
 
--- src/start.rt:47:5
 slice-write-memory-3 : tie.Need-slice-write-memory-3
 slice-write-memory-3 c = simp length-set (rw (c .pre) (omega arith))
 
--- src/start.rt:48:5
 slice-write-memory-4 : tie.Need-slice-write-memory-4
 slice-write-memory-4 c = simp length-set (rw (c .pre) (omega arith))
 
--- src/start.rt:41:1
 same-length : tie.Need-same-length
 same-length c = search needs
 
--- src/start.rt:41:1
 returns : tie.Need-returns
 returns c = rw (c .pre)
 

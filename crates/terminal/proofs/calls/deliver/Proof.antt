@@ -1,107 +1,78 @@
+-- `terminal::calls::deliver` meets its contract. Assumes nothing.
 use Rattle.terminal.proofs.Answers.{answers}
 use borrow.Author.Needs.{needs}
 use Rattle.terminal.proofs.calls.deliver.Statement.{statement}
 use Rattle.terminal.proofs.calls.deliver.Tie as tie
-use Rattle.terminal.proofs.calls.deliver.Reads as reads
-use Rattle.terminal.proofs.calls.deliver.Lts as lts
-use Rattle.datalink.proofs.datalink.Reads as datalink-reads
-use Rattle.lecom.proofs.lecom.Reads as lecom-reads
-use Rattle.love.proofs.love.Reads as love-reads
-use Rattle.lucid.proofs.lucid.Reads as lucid-reads
 
--- src/calls.rt:121:21
 datalink-requires : tie.Need-datalink-requires
 datalink-requires c κs = search needs
 
--- src/calls.rt:122:18
 lecom-requires : tie.Need-lecom-requires
 lecom-requires c κs = search needs
 
--- src/calls.rt:123:17
 love-requires : tie.Need-love-requires
 love-requires c κs = search needs
 
--- src/calls.rt:124:14
 lucid-requires : tie.Need-lucid-requires
 lucid-requires c κs = search needs
 
--- src/calls.rt:110:1
 same-length : tie.Need-same-length
 same-length c = search needs
 
--- src/calls.rt:110:1
 same-length-2 : tie.Need-same-length-2
 same-length-2 c = search needs
 
--- src/calls.rt:110:1
 same-length-3 : tie.Need-same-length-3
 same-length-3 c = search needs
 
--- src/calls.rt:110:1
 same-length-4 : tie.Need-same-length-4
 same-length-4 c = search needs
 
--- src/calls.rt:110:1
 returns : tie.Need-returns
 returns c = search answers
 
--- src/calls.rt:110:1
 same-length-5 : tie.Need-same-length-5
 same-length-5 c = search needs
 
--- src/calls.rt:110:1
 same-length-6 : tie.Need-same-length-6
 same-length-6 c = search needs
 
--- src/calls.rt:110:1
 same-length-7 : tie.Need-same-length-7
 same-length-7 c = search needs
 
--- src/calls.rt:110:1
 same-length-8 : tie.Need-same-length-8
 same-length-8 c = search needs
 
--- src/calls.rt:110:1
 returns-2 : tie.Need-returns-2
 returns-2 c = search answers
 
--- src/calls.rt:110:1
 same-length-9 : tie.Need-same-length-9
 same-length-9 c = search needs
 
--- src/calls.rt:110:1
 same-length-10 : tie.Need-same-length-10
 same-length-10 c = search needs
 
--- src/calls.rt:110:1
 same-length-11 : tie.Need-same-length-11
 same-length-11 c = search needs
 
--- src/calls.rt:110:1
 same-length-12 : tie.Need-same-length-12
 same-length-12 c = search needs
 
--- src/calls.rt:110:1
 returns-3 : tie.Need-returns-3
 returns-3 c = search answers
 
--- src/calls.rt:110:1
 same-length-13 : tie.Need-same-length-13
 same-length-13 c = search needs
 
--- src/calls.rt:110:1
 same-length-14 : tie.Need-same-length-14
 same-length-14 c = search needs
 
--- src/calls.rt:110:1
 same-length-15 : tie.Need-same-length-15
 same-length-15 c = search needs
 
--- src/calls.rt:110:1
 same-length-16 : tie.Need-same-length-16
 same-length-16 c = search needs
 
--- src/calls.rt:110:1
 returns-4 : tie.Need-returns-4
 returns-4 c = search answers
 

@@ -1,75 +1,55 @@
+-- `terminal::calls::frame` meets its contract. Assumes nothing.
 use lib.ListN.{length-take}
 use native.Mathlib.Omega.{arith}
 use borrow.Author.Needs.{needs}
 use Rattle.terminal.proofs.calls.frame.Statement.{statement}
 use Rattle.terminal.proofs.calls.frame.Tie as tie
-use Rattle.terminal.proofs.calls.frame.Reads as reads
-use Rattle.terminal.proofs.calls.frame.Lts as lts
-use Rattle.terminal.proofs.calls.give.Reads as give-reads
-use Rattle.lines.proofs.line.read_bytes.Reads as read-bytes-reads
-use Rattle.lines.proofs.line.read_number.Reads as read-number-reads
 
--- src/calls.rt:161:41
 cast-read-number : tie.Need-cast-read-number
 cast-read-number c = search needs
 
--- src/calls.rt:161:9
 read-number-requires : tie.Need-read-number-requires
 read-number-requires c κs = search needs
 
--- src/calls.rt:162:48
 slice-aggregate-read-bytes : tie.Need-slice-aggregate-read-bytes
 slice-aggregate-read-bytes c = search needs
 
--- src/calls.rt:162:9
 read-bytes-requires : tie.Need-read-bytes-requires
 read-bytes-requires c κs = search needs
 
--- src/calls.rt:164:9
 returns : tie.Need-returns
 returns c = search needs
 
--- src/calls.rt:167:16
 cast-most : tie.Need-cast-most
 cast-most c = search needs
 
--- src/calls.rt:173:9
 array-share-prefix-f : tie.Need-array-share-prefix-f
 array-share-prefix-f c = search needs
 
--- src/calls.rt:173:9
 slice-aggregate-give : tie.Need-slice-aggregate-give
 slice-aggregate-give c = simp length-take (omega arith)
 
--- src/calls.rt:174:9
 array-borrow-prefix-answer : tie.Need-array-borrow-prefix-answer
 array-borrow-prefix-answer c = search needs
 
--- src/calls.rt:174:9
 slice-aggregate-give-2 : tie.Need-slice-aggregate-give-2
 slice-aggregate-give-2 c = simp length-take (omega arith)
 
--- src/calls.rt:168:5
 give-requires : tie.Need-give-requires
 give-requires c κs = (simp length-take (omega arith), search needs)
 
--- src/calls.rt:147:1
 same-length : tie.Need-same-length
 same-length c = search needs
 
--- src/calls.rt:147:1
 same-length-2 : tie.Need-same-length-2
 same-length-2 c = search needs
 
--- src/calls.rt:147:1
 same-length-3 : tie.Need-same-length-3
 same-length-3 c = search needs
 
--- src/calls.rt:147:1
 same-length-4 : tie.Need-same-length-4
 same-length-4 c = search needs
 
--- src/calls.rt:147:1
 returns-2 : tie.Need-returns-2
 returns-2 c = search needs
 

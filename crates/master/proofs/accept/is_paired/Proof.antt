@@ -1,7 +1,7 @@
--- `master::request::is_paired` meets its contract. Assumes nothing.
+-- `master::accept::is_paired` meets its contract. Assumes nothing.
 use borrow.Author.Needs.{needs}
-use Rattle.master.proofs.request.is_paired.Statement.{statement}
-use Rattle.master.proofs.request.is_paired.Tie as tie
+use Rattle.master.proofs.accept.is_paired.Statement.{statement}
+use Rattle.master.proofs.accept.is_paired.Tie as tie
 
 enum-told : tie.Need-enum-told
 enum-told c = search needs

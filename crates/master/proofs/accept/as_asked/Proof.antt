@@ -1,10 +1,10 @@
--- `master::request::as_asked` meets its contract, kind by kind. Assumes nothing.
+-- `master::accept::as_asked` meets its contract, kind by kind. Assumes nothing.
 use native.Mathlib.Omega.{arith}
 use Rattle.master.proofs.Requests.{paired-bits}
 use Rattle.master.specs.Request.{asAsked}
 use borrow.Author.Needs.{needs}
-use Rattle.master.proofs.request.as_asked.Statement.{statement}
-use Rattle.master.proofs.request.as_asked.Tie as tie
+use Rattle.master.proofs.accept.as_asked.Statement.{statement}
+use Rattle.master.proofs.accept.as_asked.Tie as tie
 
 enum-told : tie.Need-enum-told
 enum-told c = search needs

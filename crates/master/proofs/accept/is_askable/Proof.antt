@@ -1,12 +1,12 @@
--- `master::request::is_askable` meets its contract, test by test. Assumes nothing.
+-- `master::accept::is_askable` meets its contract, test by test. Assumes nothing.
 use native.Mathlib.Omega.{arith}
 use borrow.Author.Tests.{le-leb, lt-leb}
 use Rattle.wire.proofs.Cases.{told-no, told-yes}
 use Rattle.master.proofs.Requests.{named-sent, named-few}
 use Rattle.master.specs.Request.{askOf, askable}
 use borrow.Author.Needs.{needs}
-use Rattle.master.proofs.request.is_askable.Statement.{statement}
-use Rattle.master.proofs.request.is_askable.Tie as tie
+use Rattle.master.proofs.accept.is_askable.Statement.{statement}
+use Rattle.master.proofs.accept.is_askable.Tie as tie
 
 returns : tie.Need-returns
 unfolding askable
