@@ -7,6 +7,7 @@ use libc::STDOUT_FILENO;
 use lines::ANSWER_MOST;
 use lines::LINE_FEED;
 use lines::LINE_MOST;
+use lines::line;
 use tables::start;
 use terminal::exchange;
 use terminal::exchange::Exchange;
@@ -68,7 +69,7 @@ fn take(
         return finish(words, memory, pending, asked, text, out, state);
     }
     let e = state.exchange;
-    let n = terminal::join(text, state.n, b);
+    let n = line::join(text, state.n, b);
     State {
         going: true,
         n,

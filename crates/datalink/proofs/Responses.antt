@@ -7,7 +7,7 @@ use lib.ListN.{length, take, drop, set, length-append}
 use lib.Seq.{sets}
 use Rattle.wire.specs.Buffer.{put, overlay}
 use Rattle.wire.specs.Sum.{sumOf}
-use Rattle.wire.proofs.Buffers.{overlay-sets, overlay-put, overlay-set, overlay-rest, length-overlay}
+use Rattle.wire.proofs.Buffers.{overlay-sets, overlay-put, overlay-set, overlay-rest}
 use Rattle.datalink.specs.Frame.{start, framed}
 
 pub framed-length : (second : ℕ) (body : List ℕ) → length (framed second body) ≡ length body + 3
@@ -28,12 +28,6 @@ module _ (second : ℕ) (head bytes out first then : List ℕ) (room : 3 + lengt
   before-sum =
       let n : 2 + length head ≡ length (start ∷ second ∷ head) = omega arith in
       added ∙ rw (headed, n) (overlay-put (start ∷ second ∷ head) bytes out)
-
-  pub headed-length : length first ≡ length out
-  headed-length = ap length headed ∙ length-overlay (start ∷ second ∷ head) out (omega arith)
-
-  pub then-length : length then ≡ length out
-  then-length = ap length before-sum ∙ length-overlay (start ∷ second ∷ (head ++ bytes)) out (omega (arith, length-append head bytes))
 
   pub framed-written : (lrc : ℕ) → lrc ≡ sumOf (take (2 + length head + length bytes - 1) (drop 1 then)) → set then (2 + length head + length bytes) lrc ≡ overlay (framed second (head ++ bytes)) out
   unfolding framed

@@ -1,11 +1,14 @@
-// Words, numbers and bytes of a line, and names in a list. A word is a run of bytes that are no spaces.
+// A line as it comes; its words, numbers and bytes; names in a list. A word is a run of bytes that are no spaces.
+use crate::LINE_MOST;
 use crate::text::SPACE;
 use figures::DECIMAL;
 use figures::HEX;
 use figures::NO_BYTE;
+ghost use mathlib.Core.Path.{_≡_};
 ghost use Prim.Native.Nat.{_+_, _*_, _≤_, _<_};
 ghost use lib.ListN.{length};
 ghost use Rattle.figures.specs.Figure.{noByte};
+ghost use Rattle.lines.specs.Lent.{lineMost};
 
 const MINUS: u8 = b'-';
 
@@ -24,6 +27,17 @@ const PAIR: usize = 2;
 
 // The largest magnitude of a negative number.
 const HALF: u32 = 2147483648;
+
+// A byte that does not end the line joins it. Of a line that is too long only its length is kept, one above the longest.
+pub fn join(text: &mut [u8], n: usize, b: u8) -> usize
+    requires { ⌜ length (now text) ≡ lineMost ⌝ }
+{
+    if n < text.len() {
+        text[n] = b;
+        return n + 1;
+    }
+    LINE_MOST + 1
+}
 
 // The first place from at on where s has b, or, where has is false, another byte; else the end of s.
 fn scan(s: &[u8], at: usize, b: u8, has: bool) -> usize

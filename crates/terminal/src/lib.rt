@@ -5,7 +5,6 @@ pub mod exchange;
 use exchange::Answer;
 use exchange::Exchange;
 use lines::LINE_FEED;
-use lines::LINE_MOST;
 use lines::UNREAD;
 use lines::line;
 use lines::text;
@@ -155,17 +154,6 @@ fn answer(
         len: n + 1,
         exchange: after,
     }
-}
-
-// A byte that does not end the line joins it. Of a line that is too long only its length is kept, one above the longest.
-pub fn join(text: &mut [u8], n: usize, b: u8) -> usize
-    requires { ⌜ length (now text) ≡ lineMost ⌝ }
-{
-    if n < text.len() {
-        text[n] = b;
-        return n + 1;
-    }
-    LINE_MOST + 1
 }
 
 // The answer line of a line that ended, n bytes long.
