@@ -48,9 +48,11 @@ fn command_in(f: &[u8]) -> u8
 fn command_known(command: u8) -> bool
     ensures { λ r. ⌜ r ≡ commandKnown command ⌝ }
 {
-    (command == Datalink::ACKNOWLEDGE)
-        | ((command == Datalink::INTERROGATE)
-            | ((command == Datalink::CHANGE) | (command == Datalink::CHANGE_BITS)))
+    if command == Datalink::ACKNOWLEDGE {
+        return true;
+    }
+    (command == Datalink::INTERROGATE)
+        | ((command == Datalink::CHANGE) | (command == Datalink::CHANGE_BITS))
 }
 
 // The kind of change that a command asks for.

@@ -1,19 +1,19 @@
 -- Laws of specs/Figure.antt: figures and their characters, pairs of characters. Assumes nothing.
-use Prim.Native.Nat.{ℕ, suc, _+_, _-_, _/_, _%_, _≤_, _<_}
+use Prim.Native.Nat.{ℕ, suc, _+_, _-_, _*_, _/_, _%_, _≤_, _<_}
 use mathlib.Core.Path.{_≡_, refl, sym, ap, _∙_}
-use mathlib.Core.Bool.{Bool, true, false, _&&_, and-assoc, and-false}
+use mathlib.Core.Bool.{Bool, true, false, _&&_, not, and-assoc, and-false}
 use mathlib.Core.List.{List, [], _∷_, _++_, append-assoc}
 use native.Mathlib.Omega.{arith}
 use native.Mathlib.Decide.{decLt}
 use native.Mathlib.Numerals.{add-one}
-use lib.Dec.{leb, ltb}
+use lib.Dec.{leb, ltb, eqb}
 use lib.ListN.{length, getD, take, drop, set}
 use lib.Seq.{drop-cons, sets-eq}
-use borrow.Author.Tests.{leb-true, le-leb, lt-leb, lt-ltb, le-ltb}
+use borrow.Author.Tests.{leb-true, le-leb, lt-leb, lt-ltb, le-ltb, ne-eqb}
 use Rattle.wire.specs.Choose.{choose}
 use Rattle.wire.specs.Buffer.{put}
 use Rattle.wire.proofs.Cases.{cases, by-choice}
-use Rattle.figures.specs.Figure.{upperHex, none, noByte, inRange, figureOf, charOf, allFigures, pairByte, pairOf}
+use Rattle.figures.specs.Figure.{base, upperHex, none, noByte, inRange, figureOf, charOf, allFigures, pairByte, pairOf}
 
 -- two tests that hold together hold each
 pub both : (a b : Bool) → (a && b) ≡ true → (a ≡ true) × (b ≡ true)
@@ -66,10 +66,9 @@ figure-char v h = by (decLt v 10)
         simp (le-ltb v 10 (omega arith), in-range-above 48 57 x (omega arith), in-range-yes 65 70 x (omega arith) (omega arith)) (omega arith)
 
 -- one character more
-pub all-next : (limit : ℕ) (s : List ℕ) (i : ℕ) (all : Bool) → i < length s
-    → (all && allFigures limit (drop i s)) ≡ ((all && ltb (figureOf (getD s i 0)) limit) && allFigures limit (drop (suc i) s))
+pub all-next : (limit : ℕ) (s : List ℕ) (i : ℕ) → i < length s → allFigures limit (drop i s) ≡ (ltb (figureOf (getD s i 0)) limit && allFigures limit (drop (suc i) s))
 unfolding allFigures
-all-next limit s i all h = rw (drop-cons s i 0 h) (sym (and-assoc all (ltb (figureOf (getD s i 0)) limit) (allFigures limit (drop (suc i) s))))
+all-next limit s i h = rw (drop-cons s i 0 h)
 
 -- two lists, one after the other
 pub all-append : (limit : ℕ) (s t : List ℕ) → allFigures limit (s ++ t) ≡ (allFigures limit s && allFigures limit t)
@@ -87,6 +86,17 @@ pair-at-most limit high low =
     (λ _. by-choice (λ n. n ≤ noByte) _ _ _
     (λ _. omega arith)
     (λ _. omega arith))
+
+-- two characters are figures exactly if they are a byte
+pub pair-figures : (limit high low : ℕ) → allFigures limit (high ∷ low ∷ []) ≡ not (eqb (pairByte limit high low) noByte)
+unfolding allFigures pairByte choose
+pair-figures limit high low = by (decLt (figureOf high) limit) (decLt (figureOf low) limit)
+  where
+    by : Dec (figureOf high < limit) → Dec (figureOf low < limit) → allFigures limit (high ∷ low ∷ []) ≡ not (eqb (pairByte limit high low) noByte)
+    by (yes h) (yes l) =
+        simp (lt-ltb (figureOf high) limit h, lt-ltb (figureOf low) limit l, lt-leb limit (figureOf high) h, lt-leb limit (figureOf low) l, ne-eqb (base * (figureOf high % base) + figureOf low % base) noByte (omega arith))
+    by (yes h) (no l) = simp (lt-ltb (figureOf high) limit h, le-ltb (figureOf low) limit (omega arith), lt-leb limit (figureOf high) h, le-leb limit (figureOf low) (omega arith))
+    by (no h) _ = simp (le-ltb (figureOf high) limit (omega arith), le-leb limit (figureOf high) (omega arith))
 
 -- a pair is two characters
 pub pair-length : (v : ℕ) → length (pairOf v) ≡ 2

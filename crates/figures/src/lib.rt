@@ -66,14 +66,14 @@ pub fn figure_char(v: u8) -> u8
 pub fn all_figures(s: &[u8], limit: u8) -> bool
     ensures { λ r. ⌜ r ≡ allFigures limit (now (s .entry)) ⌝ }
 {
-    let mut all = true;
     let mut i = 0;
     while i < s.len() {
-        let f = figure(s[i]);
-        all = all & (f < limit);
+        if limit <= figure(s[i]) {
+            return false;
+        }
         i += 1;
     }
-    all
+    true
 }
 
 // The byte that two characters are, both of them figures below limit, or NO_BYTE.

@@ -198,12 +198,13 @@ fn is_named(code: u32) -> bool
     (code < Lecom::PROBES_END) | ((code == Lecom::ACTIVATE) | (code == Lecom::STORE))
 }
 
-fn code_known(f: &[u8]) -> bool
-    requires { ⌜ (shortest ≤ length (now f)) × (codeEnd (now f) ≤ length (now f)) ⌝ }
+// Whether the code, whose number was read, is one of the card's.
+fn code_known(f: &[u8], code: u32) -> bool
+    requires { ⌜ ((shortest ≤ length (now f)) × (codeEnd (now f) ≤ length (now f))) × (code ≡ codeNumber (now f)) ⌝ }
     ensures { λ r. ⌜ r ≡ codeKnown (now (f .entry)) ⌝ }
 {
     let subcode = subcode_right(f);
-    let named = is_named(code_number(f));
+    let named = is_named(code);
     subcode & named
 }
 
@@ -235,11 +236,10 @@ fn write_of(code: u32, parsed: Parsed) -> Order
 }
 
 // Read-only, data and the order itself, for a frame with a known code.
-fn order_in(f: &[u8]) -> Order
-    requires { ⌜ (shortest ≤ length (now f)) × (sizeRight (now f) ≡ true) ⌝ }
+fn order_in(f: &[u8], code: u32) -> Order
+    requires { ⌜ ((shortest ≤ length (now f)) × (sizeRight (now f) ≡ true)) × (code ≡ codeNumber (now f)) ⌝ }
     ensures { λ r. ⌜ r ≡ unless (writeRight (now (f .entry))) readOnly (unless (dataRight (now (f .entry))) valueOutside (orderIn (now (f .entry)))) ⌝ }
 {
-    let code = code_number(f);
     if !is_write(f) {
         return Order::Read(code);
     }
@@ -268,10 +268,11 @@ fn heard_order(f: &[u8]) -> Order
     if !bcc_right(f) {
         return Order::Refused(CHECK_CHARACTER);
     }
-    if !code_known(f) {
+    let code = code_number(f);
+    if !code_known(f, code) {
         return Order::Refused(RANGE_UNKNOWN);
     }
-    order_in(f)
+    order_in(f, code)
 }
 
 // What the frame f asks of the unit at an address.

@@ -1,18 +1,24 @@
 -- What is known of a frame that was judged: its length, and what an order names. Assumes nothing.
 use mathlib.Core.Path.{_≡_, sym, subst}
-use mathlib.Core.Bool.{Bool, true}
+use mathlib.Core.Bool.{Bool, true, not}
 use mathlib.Core.List.{List}
 use Prim.{Unit, tt}
 use Prim.Native.Nat.{ℕ, _≤_, _<_}
 use borrow.Author.Tests.{leb-true, ltb-true}
+use native.Mathlib.Omega.{arith}
 use lib.Dec.{leb, eqb}
+use lib.ListN.{length, getD}
+use lib.Seq.{drop-cons}
 use Rattle.wire.specs.Choose.{choose}
+use Rattle.wire.specs.Buffer.{part}
 use Rattle.wire.proofs.Cases.{by-choice}
+use Rattle.figures.specs.Figure.{upperHex, noByte, allFigures}
+use Rattle.figures.proofs.Characters.{pair-figures}
 use Rattle.card.specs.Layout.{loveCount}
 use Rattle.card.specs.Tables.{inSpan, loveLeast, loveHighest}
 use Rattle.card.proofs.Facts.{and-true}
-use Rattle.love.specs.Form.{shortest, longest, lengthRight}
-use Rattle.love.specs.Frame.{orderWrite, orderBy, orderIn, orderHere, asked}
+use Rattle.love.specs.Form.{shortest, longest, lengthRight, addressAt, fieldAt}
+use Rattle.love.specs.Frame.{byteAt, orderWrite, orderBy, orderIn, orderHere, asked}
 use Rattle.love.specs.declared.frame.Order.{Order}
 use Rattle.love.specs.declared.frame.Order.the-variants.{Silent, Refused, Probe, Read, Write}
 
@@ -20,6 +26,10 @@ use Rattle.love.specs.declared.frame.Order.the-variants.{Silent, Refused
 pub length-least : (n : ℕ) → lengthRight n ≡ true → shortest ≤ n
 unfolding lengthRight
 length-least n h = leb-true shortest n (and-true (leb shortest n) (leb n longest) h .0)
+
+-- the address figures are right exactly if they are a byte
+pub address-figures : (f : List ℕ) → shortest ≤ length f → allFigures upperHex (part f addressAt fieldAt) ≡ not (eqb (byteAt upperHex f addressAt) noByte)
+address-figures f h = rw (drop-cons f 2 0 (omega arith), drop-cons f 3 0 (omega arith)) (pair-figures upperHex (getD f 2 0) (getD f 3 0))
 
 -- what an order names is one of the four parameters, and what it writes keeps to their range
 abbrev pub Within : Order → Type 0

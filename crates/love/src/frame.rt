@@ -12,6 +12,7 @@ use card::numbers::FRAME_FORM;
 use card::numbers::VALUE_OUTSIDE;
 use figures::DECIMAL;
 use figures::HEX;
+use figures::NO_BYTE;
 use figures::UPPER_HEX;
 use figures::all_figures;
 ghost use mathlib.Core.Path.{_≡_};
@@ -19,9 +20,9 @@ ghost use mathlib.Core.Bool.{true};
 ghost use Prim.Native.Nat.{_≤_, _<_, _+_};
 ghost use lib.ListN.{length};
 ghost use Rattle.wire.specs.Buffer.{part};
-ghost use Rattle.figures.specs.Figure.{decimal, allFigures};
+ghost use Rattle.figures.specs.Figure.{decimal, upperHex, allFigures};
 ghost use Rattle.card.specs.Tables.{loveMost};
-ghost use Rattle.love.specs.Form.{shortest};
+ghost use Rattle.love.specs.Form.{shortest, addressAt};
 ghost use Rattle.love.specs.Frame.{forUnit, checksumRight, byteAt, parameterOf, writeLength, valueAt, signAt, signRight, numberIn, orderWrite, orderBy, orderIn, orderHere, asked};
 
 // Error codes, by source document 004's names.
@@ -100,13 +101,12 @@ fn byte_at(s: &[u8], i: usize, limit: u8) -> u32
     figures::pair_byte(s[i], s[i + 1], limit)
 }
 
-// Whether filter and address are the unit's.
-fn is_for(address: u32, f: &[u8]) -> bool
-    requires { ⌜ (address ≤ loveMost) × (shortest ≤ length (now f)) ⌝ }
+// Whether filter and address, whose two figures were read as unit, are the unit's.
+fn is_for(address: u32, unit: u32, f: &[u8]) -> bool
+    requires { ⌜ ((address ≤ loveMost) × (shortest ≤ length (now f))) × (unit ≡ byteAt upperHex (now f) addressAt) ⌝ }
     ensures { λ r. ⌜ r ≡ forUnit address (now (f .entry)) ⌝ }
 {
     let filter = Love::filter(address);
-    let unit = byte_at(f, Love::ADDRESS, UPPER_HEX);
     (f[Love::FILTER] == filter) & (unit == address % HUNDRED)
 }
 
@@ -224,11 +224,11 @@ fn order_in(field: &[u8]) -> Order
 }
 
 // A frame of a right form: whose it is, its checksum, its characters.
-fn order_here(address: u32, f: &[u8]) -> Order
-    requires { ⌜ (address ≤ loveMost) × (shortest ≤ length (now f)) ⌝ }
+fn order_here(address: u32, unit: u32, f: &[u8]) -> Order
+    requires { ⌜ ((address ≤ loveMost) × (shortest ≤ length (now f))) × (unit ≡ byteAt upperHex (now f) addressAt) ⌝ }
     ensures { λ r. ⌜ r ≡ orderHere address (now (f .entry)) ⌝ }
 {
-    if !is_for(address, f) {
+    if !is_for(address, unit, f) {
         return Order::Silent(FOREIGN_ADDRESS);
     }
     if !checksum_right(f) {
@@ -257,8 +257,9 @@ pub fn order_of(address: u32, f: &[u8]) -> Order
     if f[n - 1] != Love::ETX {
         return Order::Silent(FRAME_FORM);
     }
-    if !all_figures(&f[Love::ADDRESS..Love::DATA], UPPER_HEX) {
+    let unit = byte_at(f, Love::ADDRESS, UPPER_HEX);
+    if unit == NO_BYTE {
         return Order::Silent(FRAME_FORM);
     }
-    order_here(address, f)
+    order_here(address, unit, f)
 }

@@ -5,29 +5,26 @@ use Prim.Native.Nat.{_+_, _≤_}
 use lib.ListN.{length, length-take, length-drop}
 use mathlib.Core.Path.{ap}
 use native.Mathlib.Omega.{arith}
-use Rattle.lecom.proofs.Places.{size-holds, write-holds}
+use Rattle.lecom.proofs.Places.{write-holds}
 use Rattle.wire.specs.Choose.{choose}
 use Rattle.lecom.specs.Frame.{writeRight, dataOf, dataRead, dataRight, orderIn}
 use borrow.Author.Needs.{needs}
 use Rattle.lecom.proofs.frame.order_in.Statement.{statement}
 use Rattle.lecom.proofs.frame.order_in.Tie as tie
 
-code-number-requires : tie.Need-code-number-requires
-code-number-requires c κs = omega (arith, size-holds (c .before .args .f .now) (c .before .pre .1))
-
 is-write-requires : tie.Need-is-write-requires
 is-write-requires c κs = search needs
 
 returns : tie.Need-returns
 unfolding writeRight dataRight orderIn choose
-returns c = simp (told-no (c .before .is-write .ensures) (c .if1 .taken)) (ap Read (c .before .before .code-number .ensures))
+returns c = simp (told-no (c .before .is-write .ensures) (c .if1 .taken)) (ap Read (c .before .before .before .pre .1))
 
 is-writable-requires : tie.Need-is-writable-requires
 is-writable-requires c κs = search needs
 
 returns-2 : tie.Need-returns-2
 unfolding writeRight choose
-returns-2 c = simp (told-yes (c .before .before .before .is-write .ensures) (c .before .before .if1 .left), ← (c .before .before .before .before .code-number .ensures), told-no (c .before .is-writable .ensures) (c .if2 .taken))
+returns-2 c = simp (told-yes (c .before .before .before .is-write .ensures) (c .before .before .if1 .left), ← (c .before .before .before .before .before .pre .1), told-no (c .before .is-writable .ensures) (c .if2 .taken))
 
 code-end-requires : tie.Need-code-end-requires
 code-end-requires c κs = search needs
@@ -36,8 +33,8 @@ sub-end : tie.Need-sub-end
 sub-end c = search needs
 
 -- the data stand between code and ETX, and are at most twelve characters
-holds : (c : tie.After-code-end) → (c .code-end .result + 3 ≤ length (c .before .before .before .before .before .before .before .args .f .now)) × (length (c .before .before .before .before .before .before .before .args .f .now) ≤ c .code-end .result + 14)
-holds c = omega (arith, write-holds (c .before .before .before .before .before .before .before .args .f .now) (told-yes (c .before .before .before .before .is-write .ensures) (c .before .before .before .if1 .left)) (c .before .before .before .before .before .before .before .pre .1))
+holds : (c : tie.After-code-end) → (c .code-end .result + 3 ≤ length (c .before .before .before .before .before .before .args .f .now)) × (length (c .before .before .before .before .before .before .args .f .now) ≤ c .code-end .result + 14)
+holds c = omega (arith, write-holds (c .before .before .before .before .before .before .args .f .now) (told-yes (c .before .before .before .before .is-write .ensures) (c .before .before .before .if1 .left)) (c .before .before .before .before .before .before .pre .0 .1))
 
 sub-parse : tie.Need-sub-parse
 sub-parse c = omega (arith, holds c)
@@ -59,13 +56,12 @@ unfolding writeRight dataRight orderIn dataRead dataOf choose
 returns-3 c =
     let write = told-yes (c .before .before .before .before .before .before .before .is-write .ensures) (c .before .before .before .before .before .before .if1 .left) in
     let allowed = told-yes (c .before .before .before .before .before .is-writable .ensures) (c .before .before .before .before .if2 .left) in
-    simp (write, ← (c .before .before .before .before .before .before .before .before .code-number .ensures), ← (c .before .before .before .code-end .ensures), allowed, ← (c .before .parse .ensures)) (c .write-of .ensures)
+    simp (write, ← (c .before .before .before .before .before .before .before .before .before .pre .1), ← (c .before .before .before .code-end .ensures), allowed, ← (c .before .parse .ensures)) (c .write-of .ensures)
 
 pub order-in-spec : {M : Type 1} → statement M
 order-in-spec =
     tie.close
     (tie.spec
-    code-number-requires
     is-write-requires
     returns
     is-writable-requires

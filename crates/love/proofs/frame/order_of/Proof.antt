@@ -1,12 +1,18 @@
 -- `love::frame::order_of` meets its contract, test by test. Assumes nothing.
+use mathlib.Core.Path.{_≡_, ap, _∙_}
+use mathlib.Core.Bool.{true, false, not}
 use Prim.Native.Nat.{_≤_}
 use native.Mathlib.Omega.{arith}
+use lib.Dec.{eqb}
 use lib.ListN.{length}
+use borrow.Author.Tests.{eq-eqb, ne-eqb}
 use borrow.Author.Needs.{needs}
+use Rattle.wire.specs.Buffer.{part}
 use Rattle.wire.proofs.Cases.{cases, told-yes}
-use Rattle.love.specs.Form.{shortest}
+use Rattle.figures.specs.Figure.{upperHex, noByte, allFigures}
+use Rattle.love.specs.Form.{shortest, addressAt, fieldAt}
 use Rattle.love.specs.Frame.{asked}
-use Rattle.love.proofs.Frames.{length-least}
+use Rattle.love.proofs.Frames.{length-least, address-figures}
 use Rattle.love.proofs.frame.order_of.Statement.{statement}
 use Rattle.love.proofs.frame.order_of.Tie as tie
 
@@ -38,28 +44,27 @@ returns-3 : tie.Need-returns-3
 unfolding asked
 returns-3 c = search cases
 
-sub-all-figures : tie.Need-sub-all-figures
-sub-all-figures c = search needs
+byte-at-requires : tie.Need-byte-at-requires
+byte-at-requires c κs = omega (arith, long (c .before .before .before .before))
 
-part-all-figures-start : tie.Need-part-all-figures-start
-part-all-figures-start c = search needs
-
-part-all-figures-end : tie.Need-part-all-figures-end
-part-all-figures-end c = omega (arith, long (c .before .before .before .before))
-
-all-figures-requires : tie.Need-all-figures-requires
-all-figures-requires c κs = search needs
+-- the address figures are right exactly if they were read as a byte
+figures : (c : tie.After-byte-at) → allFigures upperHex (part (c .before .before .before .before .before .before .before .before .args .f .now) addressAt fieldAt) ≡ not (eqb (c .byte-at .result) noByte)
+figures c = rw (c .byte-at .ensures) (address-figures (c .before .before .before .before .before .before .before .before .args .f .now) (long (c .before .before .before .before .before)))
 
 returns-4 : tie.Need-returns-4
 unfolding asked
-returns-4 c = search cases
+returns-4 c =
+    let wrong : allFigures upperHex (part (c .before .before .before .before .before .before .before .before .before .args .f .now) addressAt fieldAt) ≡ false = figures (c .before) ∙ ap not (eq-eqb _ _ (c .if4 .taken)) in
+    search (cases, wrong)
 
 order-here-requires : tie.Need-order-here-requires
-order-here-requires c κs = (c .before .before .before .before .before .before .before .before .before .before .pre, long (c .before .before .before .before .before .before .before))
+order-here-requires c κs = ((c .before .before .before .before .before .before .before .before .before .pre, long (c .before .before .before .before .before .before)), c .before .byte-at .ensures)
 
 returns-5 : tie.Need-returns-5
 unfolding asked
-returns-5 c = search cases
+returns-5 c =
+    let right : allFigures upperHex (part (c .before .before .before .before .before .before .before .before .before .before .args .f .now) addressAt fieldAt) ≡ true = figures (c .before .before) ∙ ap not (ne-eqb _ _ (c .before .if4 .left)) in
+    search (cases, right)
 
 pub order-of-spec : {M : Type 1} → statement M
 order-of-spec =
@@ -72,10 +77,7 @@ order-of-spec =
     sub-if3
     shared-slice-read-if3
     returns-3
-    sub-all-figures
-    part-all-figures-start
-    part-all-figures-end
-    all-figures-requires
+    byte-at-requires
     returns-4
     order-here-requires
     returns-5)
