@@ -16,14 +16,15 @@ use figures::NO_BYTE;
 use figures::UPPER_HEX;
 use figures::all_figures;
 ghost use mathlib.Core.Path.{_≡_};
-ghost use mathlib.Core.Bool.{true};
+ghost use mathlib.Core.Bool.{true, _||_};
 ghost use Prim.Native.Nat.{_≤_, _<_, _+_};
+ghost use lib.Dec.{eqb};
 ghost use lib.ListN.{length};
 ghost use Rattle.wire.specs.Buffer.{part};
-ghost use Rattle.figures.specs.Figure.{decimal, upperHex, allFigures};
+ghost use Rattle.figures.specs.Figure.{decimal, upperHex, hex, allFigures};
 ghost use Rattle.card.specs.Tables.{loveMost};
 ghost use Rattle.love.specs.Form.{shortest, addressAt};
-ghost use Rattle.love.specs.Frame.{forUnit, checksumRight, byteAt, parameterOf, writeLength, valueAt, signAt, signRight, numberIn, orderWrite, orderBy, orderIn, orderHere, asked};
+ghost use Rattle.love.specs.Frame.{forUnit, checksumRight, byteAt, parameterOf, writeLength, valueAt, signAt, plusSign, minusSign, numberIn, orderWrite, orderBy, orderIn, orderHere, asked};
 
 // Error codes, by source document 004's names.
 const UNDEFINED_COMMAND: u8 = 0x01;
@@ -140,21 +141,18 @@ fn parameter(low: u32) -> usize
 }
 
 // Whether a write's sign is 00 or FF.
-fn sign_right(field: &[u8]) -> bool
-    requires { ⌜ length (now field) ≡ writeLength ⌝ }
-    ensures { λ r. ⌜ r ≡ signRight (now (field .entry)) ⌝ }
+fn sign_right(sign: u32) -> bool
+    ensures { λ r. ⌜ r ≡ (eqb sign plusSign || eqb sign minusSign) ⌝ }
 {
-    let sign = byte_at(field, SIGN, HEX);
     (sign == PLUS) | (sign == MINUS)
 }
 
-// The number that a write's data holds, as a word.
-fn number_in(field: &[u8]) -> u32
-    requires { ⌜ (length (now field) ≡ writeLength) × (allFigures decimal (part (now field) valueAt signAt) ≡ true) ⌝ }
+// The number that a write's data holds, whose sign was read already, as a word.
+fn number_in(sign: u32, field: &[u8]) -> u32
+    requires { ⌜ ((length (now field) ≡ writeLength) × (sign ≡ byteAt hex (now field) signAt)) × (allFigures decimal (part (now field) valueAt signAt) ≡ true) ⌝ }
     ensures { λ r. ⌜ r ≡ numberIn (now (field .entry)) ⌝ }
 {
     let value = figures::value(&field[VALUE..SIGN]);
-    let sign = byte_at(field, SIGN, HEX);
     figures::with_sign(sign == MINUS, value as u32)
 }
 
@@ -166,10 +164,11 @@ fn order_write(k: usize, field: &[u8]) -> Order
     if !all_figures(&field[VALUE..SIGN], DECIMAL) {
         return Order::Refused(VALUE_OUTSIDE, FIELD_ERROR);
     }
-    if !sign_right(field) {
+    let sign = byte_at(field, SIGN, HEX);
+    if !sign_right(sign) {
         return Order::Refused(VALUE_OUTSIDE, FIELD_ERROR);
     }
-    let number = number_in(field);
+    let number = number_in(sign, field);
     if !in_span(number, LOVE_LEAST, LOVE_MOST) {
         return Order::Refused(VALUE_OUTSIDE, OUT_OF_RANGE);
     }

@@ -22,21 +22,18 @@ part-value-end c = search needs
 value-requires : tie.Need-value-requires
 value-requires c κs = search needs
 
-byte-at-requires : tie.Need-byte-at-requires
-byte-at-requires c κs = search needs
-
 cast-with-sign : tie.Need-cast-with-sign
 cast-with-sign c =
-    let field = c .before .before .before .before .args .field .now in
+    let field = c .before .before .before .args .field .now in
     let e : length (part field valueAt signAt) ≡ 4 = length-part field valueAt signAt (omega arith) (omega arith) in
-    omega (arith, c .before .value .ensures, rw e at (value-below (part field valueAt signAt) (c .before .before .before .before .pre .1)))
+    omega (arith, c .value .ensures, rw e at (value-below (part field valueAt signAt) (c .before .before .before .pre .1)))
 
 with-sign-requires : tie.Need-with-sign-requires
 with-sign-requires c κs = search needs
 
 returns : tie.Need-returns
 unfolding numberIn
-returns c = rw (← c .before .byte-at .ensures, ← c .before .before .value .ensures) (c .with-sign .ensures)
+returns c = rw (← c .before .before .before .before .pre .0 .1, ← c .before .value .ensures) (c .with-sign .ensures)
 
 pub number-in-spec : {M : Type 1} → statement M
 number-in-spec =
@@ -46,7 +43,6 @@ number-in-spec =
     part-value-start
     part-value-end
     value-requires
-    byte-at-requires
     cast-with-sign
     with-sign-requires
     returns)

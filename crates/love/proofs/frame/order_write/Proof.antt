@@ -1,7 +1,7 @@
 -- `love::frame::order_write` meets its contract, test by test. Assumes nothing.
 use borrow.Author.Needs.{needs}
 use Rattle.wire.proofs.Cases.{cases, told-yes}
-use Rattle.love.specs.Frame.{orderWrite}
+use Rattle.love.specs.Frame.{orderWrite, signRight}
 use Rattle.love.proofs.frame.order_write.Statement.{statement}
 use Rattle.love.proofs.frame.order_write.Tie as tie
 
@@ -21,26 +21,29 @@ returns : tie.Need-returns
 unfolding orderWrite
 returns c = search cases
 
+byte-at-requires : tie.Need-byte-at-requires
+byte-at-requires c κs = search needs
+
 sign-right-requires : tie.Need-sign-right-requires
 sign-right-requires c κs = search needs
 
 returns-2 : tie.Need-returns-2
-unfolding orderWrite
-returns-2 c = search cases
+unfolding orderWrite signRight
+returns-2 c = rw (← c .before .before .byte-at .ensures) (search cases)
 
 number-in-requires : tie.Need-number-in-requires
-number-in-requires c κs = (c .before .before .before .before .before .before .pre, told-yes (c .before .before .before .all-figures .ensures) (c .before .before .if1 .left))
+number-in-requires c κs = ((c .before .before .before .before .before .before .before .pre, c .before .before .byte-at .ensures), told-yes (c .before .before .before .before .all-figures .ensures) (c .before .before .before .if1 .left))
 
 in-span-requires : tie.Need-in-span-requires
 in-span-requires c κs = search needs
 
 returns-3 : tie.Need-returns-3
-unfolding orderWrite
-returns-3 c = rw (← c .before .before .number-in .ensures) (search cases)
+unfolding orderWrite signRight
+returns-3 c = rw (← c .before .before .number-in .ensures, ← c .before .before .before .before .before .byte-at .ensures) (search cases)
 
 returns-4 : tie.Need-returns-4
-unfolding orderWrite
-returns-4 c = rw (← c .before .before .number-in .ensures) (search cases)
+unfolding orderWrite signRight
+returns-4 c = rw (← c .before .before .number-in .ensures, ← c .before .before .before .before .before .byte-at .ensures) (search cases)
 
 pub order-write-spec : {M : Type 1} → statement M
 order-write-spec =
@@ -51,6 +54,7 @@ order-write-spec =
     part-all-figures-end
     all-figures-requires
     returns
+    byte-at-requires
     sign-right-requires
     returns-2
     number-in-requires
