@@ -198,7 +198,7 @@ fn is_named(code: u32) -> bool
     (code < Lecom::PROBES_END) | ((code == Lecom::ACTIVATE) | (code == Lecom::STORE))
 }
 
-// Whether the code, whose number was read, is one of the card's.
+// Whether the code of that number is known.
 fn code_known(f: &[u8], code: u32) -> bool
     requires { ⌜ ((shortest ≤ length (now f)) × (codeEnd (now f) ≤ length (now f))) × (code ≡ codeNumber (now f)) ⌝ }
     ensures { λ r. ⌜ r ≡ codeKnown (now (f .entry)) ⌝ }

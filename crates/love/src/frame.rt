@@ -102,7 +102,7 @@ fn byte_at(s: &[u8], i: usize, limit: u8) -> u32
     figures::pair_byte(s[i], s[i + 1], limit)
 }
 
-// Whether filter and address, whose two figures were read as unit, are the unit's.
+// Whether a frame's filter and its address figures, read as unit, are those of the address.
 fn is_for(address: u32, unit: u32, f: &[u8]) -> bool
     requires { ⌜ ((address ≤ loveMost) × (shortest ≤ length (now f))) × (unit ≡ byteAt upperHex (now f) addressAt) ⌝ }
     ensures { λ r. ⌜ r ≡ forUnit address (now (f .entry)) ⌝ }
