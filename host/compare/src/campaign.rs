@@ -75,11 +75,11 @@ fn compare(
     sections: &[&Section],
     total: &mut Total,
 ) -> Result<Option<String>, String> {
-    let weights: usize = sections.iter().map(|section| section.weight).sum();
+    let parts: usize = sections.iter().map(|section| section.part()).sum();
     let mut scribes: Vec<Scribe> = sections
         .iter()
         .map(|section| {
-            let calls = options.calls.saturating_mul(section.weight).div_ceil(weights);
+            let calls = section.calls(options.calls, parts);
             Scribe::new(section, listed, options.seed, calls)
         })
         .collect();

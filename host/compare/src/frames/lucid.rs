@@ -35,7 +35,7 @@ pub const PARAMETERS: [u16; 2] = [0x1110, 0x1120];
 /// Where LEN stands.
 const LEN: usize = 3;
 /// Bytes before the data.
-const HEAD: usize = 4;
+pub const HEAD: usize = 4;
 /// The masks of channels: 1 to 0Fh.
 const MASK_MOST: usize = 0x0F;
 /// P1 as channel or mask on both sides of each limit.

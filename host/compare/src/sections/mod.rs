@@ -5,6 +5,7 @@ mod dialect;
 mod exchanges;
 mod image;
 mod lecom;
+mod lengths;
 mod love;
 mod lucid;
 mod tables;
@@ -18,12 +19,21 @@ use crate::writer::{Line, Writer};
 /// Calls of one script at most; a script is one run of both programs.
 pub const SCRIPT_CALLS: usize = 2000;
 
+/// How many calls a section makes.
+#[derive(Clone, Copy)]
+pub enum Share {
+    /// A part of all calls, beside the other sections' parts.
+    Part(usize),
+    /// So many, whatever is asked for: every case once.
+    Whole(usize),
+}
+
 /// One part of what is compared.
 pub struct Section {
     /// Its name for `--section`.
     pub name: &'static str,
-    /// Its part of all calls, beside the other sections'.
-    pub weight: usize,
+    /// How many calls it makes.
+    share: Share,
     /// Calls without which it has nothing to say.
     needs: &'static [&'static str],
     /// Entries whose every number comes up in it.
@@ -37,6 +47,22 @@ pub struct Section {
 }
 
 impl Section {
+    /// Its part of all calls.
+    pub fn part(&self) -> usize {
+        match self.share {
+            Share::Part(part) => part,
+            Share::Whole(_) => 0,
+        }
+    }
+
+    /// Its calls, of all the calls of sections with so many parts.
+    pub fn calls(&self, all: usize, parts: usize) -> usize {
+        match self.share {
+            Share::Part(part) => all.saturating_mul(part).div_ceil(parts),
+            Share::Whole(cases) => cases,
+        }
+    }
+
     /// Whether the listed calls suffice: all that it needs, and one of its entries.
     pub fn is_possible(&self, listed: &Listed) -> bool {
         let mut entries = self.entries.iter();
@@ -46,10 +72,10 @@ impl Section {
 }
 
 /// All sections, in the order of their turns.
-pub const SECTIONS: [Section; 8] = [
+pub const SECTIONS: [Section; 9] = [
     Section {
         name: "tables",
-        weight: 3,
+        share: Share::Part(3),
         needs: &[],
         entries: &[Entry::Probe, Entry::Restart, Entry::Governor],
         is_followed: false,
@@ -58,7 +84,7 @@ pub const SECTIONS: [Section; 8] = [
     },
     Section {
         name: "unreadable",
-        weight: 2,
+        share: Share::Part(2),
         needs: &[],
         entries: &[],
         is_followed: false,
@@ -67,7 +93,7 @@ pub const SECTIONS: [Section; 8] = [
     },
     Section {
         name: "datalink",
-        weight: 2,
+        share: Share::Part(2),
         needs: &["datalink"],
         entries: &[Entry::Datalink],
         is_followed: false,
@@ -76,7 +102,7 @@ pub const SECTIONS: [Section; 8] = [
     },
     Section {
         name: "lecom",
-        weight: 2,
+        share: Share::Part(2),
         needs: &["lecom"],
         entries: &[Entry::Lecom],
         is_followed: false,
@@ -85,7 +111,7 @@ pub const SECTIONS: [Section; 8] = [
     },
     Section {
         name: "love",
-        weight: 2,
+        share: Share::Part(2),
         needs: &["love"],
         entries: &[Entry::Love],
         is_followed: false,
@@ -94,7 +120,7 @@ pub const SECTIONS: [Section; 8] = [
     },
     Section {
         name: "lucid",
-        weight: 2,
+        share: Share::Part(2),
         needs: &["lucid"],
         entries: &[Entry::Lucid],
         is_followed: false,
@@ -102,8 +128,17 @@ pub const SECTIONS: [Section; 8] = [
         close: |_| {},
     },
     Section {
+        name: "lengths",
+        share: Share::Whole(lengths::CASES),
+        needs: &["lucid"],
+        entries: &[],
+        is_followed: false,
+        scene: lengths::scene,
+        close: |_| {},
+    },
+    Section {
         name: "image",
-        weight: 2,
+        share: Share::Part(2),
         needs: &[],
         entries: &[Entry::Save, Entry::Load],
         is_followed: false,
@@ -112,7 +147,7 @@ pub const SECTIONS: [Section; 8] = [
     },
     Section {
         name: "exchanges",
-        weight: 4,
+        share: Share::Part(4),
         needs: &["datalink", "request", "step", "poke", "peek"],
         entries: &[Entry::Step],
         is_followed: true,
