@@ -22,6 +22,7 @@ use Rattle.card.specs.Layout.{Card, iaAt, lecomAddressAt, loveAddressAt, loveAt
 use Rattle.card.specs.Tables.{inSpan, allIn, fitAddresses, fitParameters, fitWords, fitPending, fit, loveLeast, loveHighest, demandMost, registerMost}
 use Rattle.card.specs.Reply.{Reply, onWords, shell, roomLeast}
 use Rattle.card.proofs.Facts.{and-true, allIn-set}
+use Rattle.card.proofs.Scans.{allIn-parts}
 use Rattle.lecom.specs.Frame.{firstProbe, activate, isWrite, dataOf, dataRead, valueIn, orderIn, asked}
 use Rattle.lecom.specs.Answer.{activated, stored, written, obeyed, addressOf, lecomReply}
 use Rattle.lecom.specs.declared.frame.Order.{Order}
@@ -85,20 +86,9 @@ within : (f : List ℕ) (address : ℕ) → Within (asked address f)
 unfolding orderIn
 within f = by-order f Within (λ _. tt) (λ _ _ _. tt) (λ _ _. by-choice Within (isWrite f) _ _ (λ _. data-range f) (λ _. tt))
 
--- the front of a list that is all in range, the rest of it, and two such lists one after the other
-range-take : (n : ℕ) (s : List ℕ) → allInRange s ≡ true → allInRange (take n s) ≡ true
-unfolding allIn
-range-take zero s e = refl
-range-take (suc n) [] e = refl
-range-take (suc n) (x ∷ s) e =
-    let t = and-true (inRange x) (allInRange s) e in
-    rw (t .0) (range-take n s (t .1))
-
-range-drop : (n : ℕ) (s : List ℕ) → allInRange s ≡ true → allInRange (drop n s) ≡ true
-unfolding allIn
-range-drop zero s e = e
-range-drop (suc n) [] e = refl
-range-drop (suc n) (x ∷ s) e = range-drop n s (and-true (inRange x) (allInRange s) e .1)
+-- the front of a list that is all in range and the rest of it, and two such lists one after the other
+range-parts : (n : ℕ) (s : List ℕ) → allInRange s ≡ true → (allInRange (take n s) ≡ true) × (allInRange (drop n s) ≡ true)
+range-parts n s e = and-true (allInRange (take n s)) (allInRange (drop n s)) (sym (allIn-parts (minus registerMost) registerMost n s) ∙ e)
 
 range-append : (s t : List ℕ) → allInRange s ≡ true → allInRange t ≡ true → allInRange (s ++ t) ≡ true
 unfolding allIn
@@ -142,7 +132,7 @@ module _ (ws ws′ : List ℕ) (front : take bufferAt ws′ ≡ take bufferAt ws
         d .0,
         p .0,
       )
-      (range-take (wordCount - bufferAt) (drop bufferAt ws′) r)
+      (range-parts (wordCount - bufferAt) (drop bufferAt ws′) r .0)
 
 -- the words from a register on are in range
 module _ (ws : List ℕ) (long : length ws ≡ wordCount) (fits : fitWords ws ≡ true) where
@@ -160,7 +150,7 @@ module _ (ws : List ℕ) (long : length ws ≡ wordCount) (fits : fitWords ws �
   rest-fit a h =
       let e : bufferAt + (a - bufferAt) ≡ a = omega arith in
       let m : drop (a - bufferAt) (drop bufferAt ws) ≡ drop a ws = drop-drop (a - bufferAt) bufferAt ws ∙ ap (λ (n : ℕ). drop n ws) e in
-      rw m at (range-drop (a - bufferAt) (drop bufferAt ws) registers-fit)
+      rw m at (range-parts (a - bufferAt) (drop bufferAt ws) registers-fit .1)
 
   -- a register stored
   stored-fit : (k value : ℕ) → inRange value ≡ true → fitWords (set ws (bufferAt + k) value) ≡ true
@@ -181,8 +171,8 @@ module _ (ws : List ℕ) (long : length ws ≡ wordCount) (fits : fitWords ws �
       sym (take-all (to - bufferAt) (drop bufferAt (take to ws)) c) ∙ front-part bufferAt (to - bufferAt) to ws (omega arith) in
       words-fit ws (take to ws ++ rest) front fits
       (rw (drop-append-le bufferAt (take to ws) rest (omega arith), first)
-      (range-append _ rest (range-take (to - bufferAt) (drop bufferAt ws) registers-fit)
-      (range-append s _ (range-take (from + n - from) (drop from ws) (rest-fit from h))
+      (range-append _ rest (range-parts (to - bufferAt) (drop bufferAt ws) registers-fit .0)
+      (range-append s _ (range-parts (from + n - from) (drop from ws) (rest-fit from h) .0)
       (rest-fit (to + length s) (omega arith)))))
 
   -- what a write makes of the words: as many, and all in range
