@@ -13,7 +13,7 @@ use Rattle.wire.specs.Choose.{choose}
 use Rattle.wire.specs.Buffer.{part}
 use Rattle.wire.specs.Word.{minus}
 use Rattle.card.specs.Layout.{Card, iaAt, lecomAddressAt, loveAddressAt, loveAt, demandsAt, parametersAt, bufferAt, wordCount, memorySize, pendingSize}
-use Rattle.card.specs.Tables.{inSpan, allIn, fitPending, fitAddresses, fitParameters, fitWords, fit, iaMost, lecomLeast, lecomMost, loveMost, loveLeast, loveHighest, demandMost, registerMost}
+use Rattle.card.specs.Tables.{inSpan, allIn, fitPending, fitAddresses, fitParameters, fitWords, fit, iaMost, lecomLeast, lecomMost, loveAddressMost, loveLeast, loveMost, demandMost, registerMost}
 use Rattle.card.specs.Fit.{Fit}
 
 pub and-true : (a b : Bool) → (a && b) ≡ true → (a ≡ true) × (b ≡ true)
@@ -64,14 +64,14 @@ module _ (card : Card) (fits : fit card ≡ true) where
       let n : length ws ≡ wordCount = words-fit .0 in
       let w : fitWords ws ≡ true = words-fit .1 .1 .1 .0 in
       let a = and-true (fitAddresses (getD ws iaAt 0) (getD ws lecomAddressAt 0) (getD ws loveAddressAt 0)) _ w in
-      let b = and-true (allIn loveLeast loveHighest (part ws loveAt demandsAt)) _ (a .1) in
+      let b = and-true (allIn loveLeast loveMost (part ws loveAt demandsAt)) _ (a .1) in
       let d = and-true (allIn 0 demandMost (part ws demandsAt parametersAt)) _ (b .1) in
       let r = and-true (fitParameters (part ws parametersAt bufferAt)) (allIn (minus registerMost) registerMost (part ws bufferAt wordCount)) (d .1) in
       let x = and-true (leb (getD ws iaAt 0) iaMost) _ (a .0) in
       let y = and-true (leb lecomLeast (getD ws lecomAddressAt 0) && (leb (getD ws lecomAddressAt 0) lecomMost && not (eqb (getD ws lecomAddressAt 0 % 10) 0))) _ (x .1) in
       let z = and-true (leb lecomLeast (getD ws lecomAddressAt 0)) _ (y .0) in
       let u = and-true (leb (getD ws lecomAddressAt 0) lecomMost) _ (z .1) in
-      let v = and-true (leb (getD ws loveAddressAt 0) loveMost) _ (y .1) in
+      let v = and-true (leb (getD ws loveAddressAt 0) loveAddressMost) _ (y .1) in
       record {
         words-length = n;
         memory-length = words-fit .1 .0;
@@ -79,8 +79,8 @@ module _ (card : Card) (fits : fit card ≡ true) where
         ia = leb-true (getD ws iaAt 0) iaMost (x .0);
         lecom-least = leb-true lecomLeast (getD ws lecomAddressAt 0) (z .0);
         lecom-most = leb-true (getD ws lecomAddressAt 0) lecomMost (u .0);
-        love-most = leb-true (getD ws loveAddressAt 0) loveMost (v .0);
-        love = λ k h. part-at loveLeast loveHighest ws loveAt demandsAt k (b .0) (omega arith) (omega arith);
+        love-most = leb-true (getD ws loveAddressAt 0) loveAddressMost (v .0);
+        love = λ k h. part-at loveLeast loveMost ws loveAt demandsAt k (b .0) (omega arith) (omega arith);
         demand = λ k h. span-most demandMost (getD ws (demandsAt + k) 0) refl (part-at 0 demandMost ws demandsAt parametersAt k (d .0) (omega arith) (omega arith));
         register = λ k h. part-at (minus registerMost) registerMost ws bufferAt wordCount k (r .1) (omega arith) (omega arith);
         pending = words-fit .1 .1 .1 .1;

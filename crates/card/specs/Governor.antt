@@ -2,14 +2,16 @@
 use Prim.Native.Nat.{ℕ, _-_}
 use mathlib.Core.Bool.{true, false}
 use mathlib.Core.List.{List, [], _∷_}
-use lib.Dec.{eqb, ltb}
+use lib.Dec.{ltb}
 use lib.Ieee.{Float, odd, binary32, toBits}
 use lib.ListN.{getD}
 use Rattle.wire.specs.Choose.{choose}
 use Rattle.card.specs.Numbers.{answered, rangeUnknown, probeFault, cardUnfit}
 use Rattle.card.specs.Layout.{Card, channels}
 use Rattle.card.specs.Tables.{fit}
-use Rattle.card.specs.Probe.{faultCode}
+use Rattle.card.specs.Probe.{readingOf}
+use Rattle.card.specs.declared.probe.Reading.{Reading}
+use Rattle.card.specs.declared.probe.Reading.the-variants.{Temperature, Fault as Failed}
 use Rattle.card.specs.declared.governor.Governor.{Governor}
 use Rattle.card.specs.declared.governor.Governor.the-variants.{Degrees, Fault, Refused}
 
@@ -25,9 +27,13 @@ unfoldable pub degreesOf : ℕ → Float
 degreesOf code =
     choose (ltb code zeroCode) (odd significantBits true (zeroCode - code) 0 1) (odd significantBits false (code - zeroCode) 0 1)
 
--- what the governor is told of a code
+-- what the governor is told of a code, by what the code is read as
+abbrev pub toldBy : Reading → ℕ → Governor
+toldBy (Temperature tenths) code = Degrees (degreesOf code)
+toldBy Failed code = Fault
+
 unfoldable pub toldOf : ℕ → Governor
-toldOf code = choose (eqb code faultCode) Fault (Degrees (degreesOf code))
+toldOf code = toldBy (readingOf code) code
 
 -- what the governor is told of a channel
 unfoldable pub governorOf : Card → ℕ → Governor

@@ -84,11 +84,11 @@ abbrev pub lecomRight : ℕ → Bool
 lecomRight lecom = leb lecomLeast lecom && (leb lecom lecomMost && not (eqb (lecom % 10) 0))
 
 -- "Love 1 to 3FFh, low two hex figures not 00"
-abbrev pub loveMost : ℕ
-loveMost = 0x3FF
+abbrev pub loveAddressMost : ℕ
+loveAddressMost = 0x3FF
 
 abbrev pub loveRight : ℕ → Bool
-loveRight love = leb love loveMost && not (eqb (love % 256) 0)
+loveRight love = leb love loveAddressMost && not (eqb (love % 256) 0)
 
 unfoldable pub fitAddresses : ℕ → ℕ → ℕ → Bool
 fitAddresses ia lecom love = leb ia iaMost && (lecomRight lecom && loveRight love)
@@ -97,8 +97,8 @@ fitAddresses ia lecom love = leb ia iaMost && (lecomRight lecom && loveRight lov
 abbrev pub loveLeast : ℕ
 loveLeast = minus 400
 
-abbrev pub loveHighest : ℕ
-loveHighest = 870
+abbrev pub loveMost : ℕ
+loveMost = 870
 
 -- "four fan demands, 0 to 65,535"
 abbrev pub demandMost : ℕ
@@ -129,7 +129,7 @@ registerMost = 999999
 unfoldable pub fitWords : List ℕ → Bool
 fitWords ws =
     fitAddresses (getD ws iaAt 0) (getD ws lecomAddressAt 0) (getD ws loveAddressAt 0)
-    && (allIn loveLeast loveHighest (part ws loveAt demandsAt)
+    && (allIn loveLeast loveMost (part ws loveAt demandsAt)
     && (allIn 0 demandMost (part ws demandsAt parametersAt)
     && (fitParameters (part ws parametersAt bufferAt)
     && allIn (minus registerMost) registerMost (part ws bufferAt wordCount))))

@@ -3,7 +3,8 @@ use crate::fitness::is_fit;
 use crate::layout::CHANNELS;
 use crate::numbers::CARD_UNFIT;
 use crate::numbers::RANGE_UNKNOWN;
-use crate::probe::FAULT_CODE;
+use crate::probe::Reading;
+use crate::probe::read_code;
 ghost use mathlib.Core.Path.{_≡_};
 ghost use Prim.Native.Nat.{_<_};
 ghost use Rattle.card.specs.Layout.{cardOf};
@@ -24,13 +25,13 @@ fn degrees(code: u8) -> f32
     code as f32 * 0.5 - 40.0
 }
 
-// What the governor is told of a code.
+// What the governor is told of a code: degrees if it is read as a temperature, or the fault.
 fn told(code: u8) -> Governor
     ensures { λ r. ⌜ r ≡ toldOf code ⌝ }
 {
-    if code == FAULT_CODE {
+    let Reading::Temperature(_tenths) = read_code(code) else {
         return Governor::Fault;
-    }
+    };
     Governor::Degrees(degrees(code))
 }
 

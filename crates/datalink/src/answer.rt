@@ -2,6 +2,7 @@
 use crate::form::Datalink;
 use crate::frame;
 use crate::frame::Order;
+use crate::write::write_frame;
 use card::Outcome;
 use card::fitness;
 use card::fitness::CHANGE_BITS;
@@ -28,22 +29,6 @@ ghost use Rattle.card.specs.Reply.{Gave, Did, Wrote, roomLeast};
 ghost use Rattle.datalink.specs.Frame.{framed, asked, numPlace, dataPlace, bareSize};
 ghost use Rattle.datalink.specs.Answer.{response, newByte, changed, acknowledged, bodyOf, obeyed, iaOf};
 
-// Writes a frame at the front of out: 7Eh, its second byte, a body of head and then bytes, and the LRC.
-pub fn write_frame(out: &mut [u8], second: u8, head: &[u8], bytes: &[u8]) -> usize
-    requires { ⌜ (length (now head) + length (now bytes) + 3 ≤ roomLeast) × (roomLeast ≤ length (now out)) ⌝ }
-    ensures { λ r. ⌜ Wrote (framed second (now (head .entry) ++ now (bytes .entry))) (now (out .entry)) r (now (out .exit)) ⌝ }
-{
-    out[0] = Datalink::START;
-    out[1] = second;
-    wire::copy(head, out, 2);
-    let at = 2 + head.len();
-    wire::copy(bytes, out, at);
-    let end = at + bytes.len();
-    let lrc = wire::sum(&out[1..end]);
-    out[end] = lrc;
-    end + 1
-}
-
 // Writes the response whose body is head and then bytes at the front of out.
 fn respond(out: &mut [u8], ia: u32, head: &[u8], bytes: &[u8]) -> usize
     requires { ⌜ (ia ≤ iaMost) × ((length (now head) + length (now bytes) + 3 ≤ roomLeast) × (roomLeast ≤ length (now out))) ⌝ }
@@ -53,7 +38,7 @@ fn respond(out: &mut [u8], ia: u32, head: &[u8], bytes: &[u8]) -> usize
     write_frame(out, second, head, bytes)
 }
 
-// Makes the change of frame f, of its kind and NUM, the pending one.
+// Makes a change of its kind, with NUM, address and data as its body, the pending one.
 fn pend(pending: &mut [u8], kind: u8, body: &[u8])
     requires { ⌜ 1 + length (now body) ≤ length (now pending) ⌝ }
     ensures { λ _. ⌜ now (pending .exit) ≡ overlay (kind ∷ now (body .entry)) (now (pending .entry)) ⌝ }

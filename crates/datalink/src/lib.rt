@@ -1,7 +1,8 @@
 // The Datalink dialect. Document 01, "Datalink"; source document 003.
-pub mod answer;
+mod answer;
 pub mod form;
-pub mod frame;
+mod frame;
+pub mod write;
 
 use card::Outcome;
 use card::ROOM_LEAST;

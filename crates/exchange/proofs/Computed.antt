@@ -23,6 +23,7 @@ use Rattle.master.specs.Request.Ask.{bytes}
 use Rattle.master.specs.Frames.{changeFrame, acknowledgeFrame, interrogateFrame, same, echo, isEcho, isResponse, allAsked, confirms}
 use Rattle.master.specs.Step.{move, stepOf}
 use Rattle.exchange.specs.Calls.{Call, replyOf}
+use Rattle.exchange.specs.Calls.Choice.{none, answer}
 use Rattle.exchange.specs.Calls.Call.{Step, Arrival, Restart, Datalink, Other}
 use Rattle.exchange.specs.Line.{World, Build, refused, closing, afterStep, afterArrival, afterRestart, called, run}
 use Rattle.exchange.specs.Premise.{writes, AtMostTwice, Quiet, AsWorded}
@@ -84,3 +85,13 @@ stale = cardWith (1 ∷ 1 ∷ 0x20 ∷ 0x10 ∷ 7 ∷ replicate 31 0)
 -- 08h and 0Ch to 1010h and 1011h
 abbrev pub two : Request
 two = record { ia = 3; address = 0x1010; ask = bytes (8 ∷ 12 ∷ []) }
+
+-- a step that gets an answer, one that gets none, an arrival: each with a buffer that is long enough
+abbrev pub hears : Call
+hears = Step (answer 0) 38
+
+abbrev pub alone : Call
+alone = Step none 38
+
+abbrev pub arrives : Call
+arrives = Arrival 38

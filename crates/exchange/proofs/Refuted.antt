@@ -22,22 +22,13 @@ use Rattle.master.specs.declared.Phase.{Phase}
 use Rattle.master.specs.declared.Phase.the-variants.{New, Changing, Acknowledging, Reading, EndedDone, EndedUnknown}
 use Rattle.master.specs.declared.Verdict.the-variants.{Open, Done, Unknown}
 use Rattle.exchange.specs.Calls.{Call, Entry, replyOf}
-use Rattle.exchange.specs.Calls.Choice.{none, answer}
-use Rattle.exchange.specs.Calls.Call.{Step, Arrival, Datalink, Other}
+use Rattle.exchange.specs.Calls.Choice.{none}
+use Rattle.exchange.specs.Calls.Call.{Step, Datalink, Other}
 use Rattle.exchange.specs.Calls.Entry.{SetCode, Governor, Lecom, Love, Lucid, WriteImage, ReadImage}
 use Rattle.exchange.specs.Line.{Build, begin, asWritten, run}
 use Rattle.exchange.specs.Premise.{AsWorded}
 use Rattle.exchange.specs.Demand.{Writable, Named, Demand3}
-use Rattle.exchange.proofs.Computed.{computed, allows, allowed, fresh, stale, two}
-
-abbrev hears : Call
-hears = Step (answer 0) 38
-
-abbrev alone : Call
-alone = Step none 38
-
-abbrev arrives : Call
-arrives = Arrival 38
+use Rattle.exchange.proofs.Computed.{computed, allows, allowed, fresh, stale, two, hears, alone, arrives}
 
 free : Writable 0x1020
 free = record { low = lit≤ tt; high = lit< tt }
@@ -160,7 +151,7 @@ refute-blind =
       broken = λ h. let e : _≡_ {A = ℕ} 7 255 = h .others 0x1020 free not-named in omega arith;
     }
 
--- one that moves although it refuses: 11 and a step further, so that it waits for the echo of a change that it never sent
+-- one that moves although it refuses: 11, and it says done of a change that it never sent
 unfoldable movesWhenRefused : Request → Phase → List ℕ → ℕ → Move
 movesWhenRefused q phase got room = choose (leb longest room) (stepOf q phase got room) (refuses bufferShort EndedDone)
 

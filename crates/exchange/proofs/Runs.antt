@@ -17,12 +17,12 @@ use Rattle.master.specs.Step.{saysOf}
 use Rattle.master.specs.declared.Verdict.{Verdict}
 use Rattle.master.specs.declared.Verdict.the-variants.{Open, Done, Unknown}
 use Rattle.exchange.specs.Calls.{Call}
-use Rattle.exchange.specs.Calls.Choice.{none, answer}
+use Rattle.exchange.specs.Calls.Choice.{answer}
 use Rattle.exchange.specs.Calls.Call.{Step, Arrival, Restart, Datalink, Other}
 use Rattle.exchange.specs.Calls.Entry.{SetCode, ReadImage}
 use Rattle.exchange.specs.Line.{begin, asWritten, run}
 use Rattle.exchange.specs.Demand.{byteAt}
-use Rattle.exchange.proofs.Computed.{computed, allows, fresh, stale, cardWith, two}
+use Rattle.exchange.proofs.Computed.{computed, allows, fresh, stale, cardWith, two, hears, alone, arrives}
 
 -- after these calls, which the premise allows, the master says this and the byte at an address is this
 pub record Runs (q : Request) (start : Card) (calls : List Call) (says : Verdict) (address byte : ℕ) : Type 0 where
@@ -30,16 +30,6 @@ pub record Runs (q : Request) (start : Card) (calls : List Call) (says : Verdict
   pub allowed : allows asWritten q (begin start) calls ≡ true
   pub said : saysOf (run asWritten q (begin start) calls .phase) ≡ says
   pub held : byteAt (run asWritten q (begin start) calls .card) address ≡ byte
-
--- a step that gets an answer, one that gets none, an arrival
-abbrev hears : Call
-hears = Step (answer 0) 38
-
-abbrev alone : Call
-alone = Step none 38
-
-abbrev arrives : Call
-arrives = Arrival 38
 
 -- three rounds without loss
 abbrev whole : List Call

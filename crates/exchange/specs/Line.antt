@@ -23,6 +23,8 @@ use Rattle.exchange.specs.Calls.Call.{Step, Arrival, Restart, Datalink, 
 abbrev pub refused : ℕ → Bool
 refused number = leb foreignAddress number
 
+-- the line: the round that is open and those that were closed. A round is a frame sent by a step, its arrivals and the step after it;
+-- an arrival is that frame reaching the card
 pub record Line : Type 0 where
   -- the frame last sent; none is [], before the first one and after the end
   pub frame : List ℕ

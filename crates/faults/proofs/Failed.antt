@@ -13,9 +13,11 @@ use Rattle.wire.specs.Choose.{choose}
 use Rattle.wire.proofs.Cases.{by-choice}
 use Rattle.card.specs.Layout.{Card, channels}
 use Rattle.card.specs.Tables.{fit}
-use Rattle.card.specs.Probe.{faultCode}
+use Rattle.card.specs.Probe.{faultCode, readingOf}
+use Rattle.card.specs.declared.probe.Reading.{Reading}
+use Rattle.card.proofs.Probes.{fault-read}
 use Rattle.card.specs.Entries.{withCode}
-use Rattle.card.specs.Governor.{governorOf, toldOf, valuesOf}
+use Rattle.card.specs.Governor.{governorOf, toldBy, toldOf, valuesOf}
 use Rattle.card.specs.Numbers.{bufferShort, cardUnfit}
 use Rattle.card.specs.Reply.{WordsReply, onWords, silent, shell, roomLeast}
 use Rattle.card.specs.declared.governor.Governor.{Governor}
@@ -96,7 +98,7 @@ unfolding governorOf toldOf
 no-degrees card channel failed =
     by-choice (λ (g : Governor). valuesOf g ≡ []) (fit card) _ _
     (λ _. by-choice (λ (g : Governor). valuesOf g ≡ []) (ltb channel channels) _ _
-    (λ _. by-choice (λ (g : Governor). valuesOf g ≡ []) (eqb (getD (card .memory) channel 0) faultCode) _ _ (λ _. refl) (λ e. absurd (eqb-false _ _ e failed)))
+    (λ _. ap (λ (r : Reading). valuesOf (toldBy r (getD (card .memory) channel 0))) (ap readingOf failed ∙ fault-read))
     (λ _. refl))
     (λ _. refl)
 

@@ -15,7 +15,7 @@ use Rattle.wire.specs.Word.{minus}
 use Rattle.wire.proofs.Cases.{yes as taken, no as left}
 use Rattle.wire.specs.Buffer.{part}
 use Rattle.card.specs.Layout.{Card, cardOf, iaAt, lecomAddressAt, loveAddressAt, loveAt, demandsAt, parametersAt, bufferAt, wordCount, memorySize, pendingSize}
-use Rattle.card.specs.Tables.{inSpan, allIn, lecomRight, loveRight, fitAddresses, fitParameters, fitWords, fitPending, fit, iaMost, loveLeast, loveHighest, demandMost, cycleLeast, cycleMost, floorMost, registerMost}
+use Rattle.card.specs.Tables.{inSpan, allIn, lecomRight, loveRight, fitAddresses, fitParameters, fitWords, fitPending, fit, iaMost, loveLeast, loveMost, demandMost, cycleLeast, cycleMost, floorMost, registerMost}
 use Rattle.card.proofs.Facts.{and-true, part-at}
 use Rattle.card.proofs.Scans.{and-true-right}
 use Rattle.image.specs.declared.form.Entry.{Entry}
@@ -27,7 +27,7 @@ use Rattle.image.proofs.Steps.{form-sound}
 
 -- Properties of inRange
 
-pub at-love : (k x : ℕ) → 3 ≤ k → k < demandsAt → inSpan loveLeast loveHighest x ≡ inRange k x
+pub at-love : (k x : ℕ) → 3 ≤ k → k < demandsAt → inSpan loveLeast loveMost x ≡ inRange k x
 unfolding inRange
 at-love k x a b =
     left _ _ _ _ (ne-eqb k 0 (λ e. omega arith)) (left _ _ _ _ (ne-eqb k 1 (λ e. omega arith)) (left _ _ _ _ (ne-eqb k 2 (λ e. omega arith))
@@ -123,7 +123,7 @@ module _ (ws : List ℕ) (l : length ws ≡ wordCount) where
       let p = part ws parametersAt bufferAt in
       let n : length p ≡ 16 = length-part ws parametersAt bufferAt (omega arith) in
       both (both (h 0 (omega arith)) (both (h 1 (omega arith)) (h 2 (omega arith))))
-      (both (in-part loveLeast loveHighest ws loveAt demandsAt (omega arith) (λ k a b. at-love k (getD ws k 0) a b ∙ h k (omega arith)))
+      (both (in-part loveLeast loveMost ws loveAt demandsAt (omega arith) (λ k a b. at-love k (getD ws k 0) a b ∙ h k (omega arith)))
       (both (in-part 0 demandMost ws demandsAt parametersAt (omega arith) (λ k a b. at-demand k (getD ws k 0) a b ∙ h k (omega arith)))
       (both (parameters-from p (λ i g. parameter-in h i (omega arith)))
       (in-part (minus registerMost) registerMost ws bufferAt wordCount (omega arith) (λ k a b. at-register k (getD ws k 0) a ∙ h k b)))))
@@ -138,7 +138,7 @@ module _ (ws : List ℕ) (l : length ws ≡ wordCount) where
     pub ia : leb (getD ws iaAt 0) iaMost ≡ true
     pub lecom : lecomRight (getD ws lecomAddressAt 0) ≡ true
     pub address : loveRight (getD ws loveAddressAt 0) ≡ true
-    pub love : allIn loveLeast loveHighest (part ws loveAt demandsAt) ≡ true
+    pub love : allIn loveLeast loveMost (part ws loveAt demandsAt) ≡ true
     pub demands : allIn 0 demandMost (part ws demandsAt parametersAt) ≡ true
     pub parameters : fitParameters (part ws parametersAt bufferAt) ≡ true
     pub registers : allIn (minus registerMost) registerMost (part ws bufferAt wordCount) ≡ true
@@ -149,14 +149,14 @@ module _ (ws : List ℕ) (l : length ws ≡ wordCount) where
       let a = and-true (fitAddresses (getD ws iaAt 0) (getD ws lecomAddressAt 0) (getD ws loveAddressAt 0)) _ t in
       let x = and-true (leb (getD ws iaAt 0) iaMost) _ (a .0) in
       let y = and-true (lecomRight (getD ws lecomAddressAt 0)) (loveRight (getD ws loveAddressAt 0)) (x .1) in
-      let b = and-true (allIn loveLeast loveHighest (part ws loveAt demandsAt)) _ (a .1) in
+      let b = and-true (allIn loveLeast loveMost (part ws loveAt demandsAt)) _ (a .1) in
       let d = and-true (allIn 0 demandMost (part ws demandsAt parametersAt)) _ (b .1) in
       let r = and-true (fitParameters (part ws parametersAt bufferAt)) (allIn (minus registerMost) registerMost (part ws bufferAt wordCount)) (d .1) in
       record { ia = x .0; lecom = y .0; address = y .1; love = b .0; demands = d .0; parameters = r .0; registers = r .1 }
 
   -- a word past the addresses
   past-addresses : Tests → (k : ℕ) → 3 ≤ k → k < wordCount → Dec (k < demandsAt) → Dec (k < parametersAt) → Dec (k < bufferAt) → inRange k (getD ws k 0) ≡ true
-  past-addresses t k a h (yes b) d e = sym (at-love k _ a b) ∙ part-in loveLeast loveHighest ws loveAt demandsAt (t .love) (omega arith) k a b
+  past-addresses t k a h (yes b) d e = sym (at-love k _ a b) ∙ part-in loveLeast loveMost ws loveAt demandsAt (t .love) (omega arith) k a b
   past-addresses t k a h (no n) (yes d) e = sym (at-demand k _ (omega arith) d) ∙ part-in 0 demandMost ws demandsAt parametersAt (t .demands) (omega arith) k (omega arith) d
   past-addresses t k a h (no n) (no m) (yes e) =
       let s = part ws parametersAt bufferAt in

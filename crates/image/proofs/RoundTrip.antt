@@ -18,7 +18,7 @@ use Rattle.bits.proofs.Writing.{putField-own}
 use Rattle.bits.proofs.Sequences.{Fit, none, more, fields-fit, fields-putFields, putFields-own}
 use Rattle.card.specs.Numbers.{done}
 use Rattle.card.specs.Layout.{Card, savedAt, loveAt, wordCount}
-use Rattle.card.specs.Tables.{inSpan, iaMost, lecomLeast, lecomMost, loveMost, loveHighest, registerMost, fit}
+use Rattle.card.specs.Tables.{inSpan, iaMost, lecomLeast, lecomMost, loveAddressMost, loveMost, registerMost, fit}
 use Rattle.card.specs.Reply.{Reply, silent}
 use Rattle.card.proofs.Facts.{and-true, fit-facts}
 use Rattle.image.specs.declared.form.Entry.{Entry}
@@ -63,7 +63,7 @@ past-addresses ws hw h k g l (yes a) b =
 past-addresses ws hw h k g l (no a) (yes b) = rw (table.parameter-at k (omega arith) b) (omega arith)
 past-addresses ws hw h k g l (no a) (no b) =
     let j = loveAt + (k - table.firstLove) in
-    let x = biased loveBias loveHighest (getD ws j 0) (omega arith) (hw j) (at-love j (getD ws j 0) (omega arith) (omega arith) ∙ h j (omega arith)) in
+    let x = biased loveBias loveMost (getD ws j 0) (omega arith) (hw j) (at-love j (getD ws j 0) (omega arith) (omega arith) ∙ h j (omega arith)) in
     rw (table.love-at k (omega arith) l) (omega arith)
 
 -- each value of the image's table
@@ -71,7 +71,7 @@ value-fits : (ws : List ℕ) → Words ws → InRange ws → (k : ℕ) → k < t
 unfolding savedForm run fieldOf inRange choose
 value-fits ws hw h zero l a b = let x = leb-true (getD ws 0 0) iaMost (h 0 (omega arith)) in omega arith
 value-fits ws hw h (suc zero) l a b = let x = leb-true (getD ws 1 0) lecomMost (and-true (leb (getD ws 1 0) lecomMost) _ (and-true (leb lecomLeast (getD ws 1 0)) _ (h 1 (omega arith)) .1) .0) in omega arith
-value-fits ws hw h (suc (suc zero)) l a b = let x = leb-true (getD ws 2 0) loveMost (and-true (leb (getD ws 2 0) loveMost) _ (h 2 (omega arith)) .0) in omega arith
+value-fits ws hw h (suc (suc zero)) l a b = let x = leb-true (getD ws 2 0) loveAddressMost (and-true (leb (getD ws 2 0) loveAddressMost) _ (h 2 (omega arith)) .0) in omega arith
 value-fits ws hw h (suc (suc (suc k))) l a b = past-addresses ws hw h (suc (suc (suc k))) (omega arith) l a b
 
 fit-values : (ws : List ℕ) → Words ws → InRange ws → Fit (widths savedForm) (values savedForm ws)

@@ -6,7 +6,7 @@ use lib.Dec.{leb, ltb, eqb}
 use Rattle.wire.specs.Choose.{choose}
 use Rattle.wire.specs.Word.{minus}
 use Rattle.card.specs.Layout.{iaAt, lecomAddressAt, loveAddressAt, demandsAt, parametersAt, bufferAt}
-use Rattle.card.specs.Tables.{inSpan, iaMost, lecomRight, loveRight, loveLeast, loveHighest, demandMost, cycleLeast, cycleMost, floorMost, registerMost}
+use Rattle.card.specs.Tables.{inSpan, iaMost, lecomRight, loveRight, loveLeast, loveMost, demandMost, cycleLeast, cycleMost, floorMost, registerMost}
 use Rattle.image.specs.declared.form.Entry.{Entry}
 use Rattle.image.specs.Saved.{wordOf}
 
@@ -16,7 +16,7 @@ inRange k x =
     choose (eqb k iaAt) (leb x iaMost)
     (choose (eqb k lecomAddressAt) (lecomRight x)
     (choose (eqb k loveAddressAt) (loveRight x)
-    (choose (ltb k demandsAt) (inSpan loveLeast loveHighest x)
+    (choose (ltb k demandsAt) (inSpan loveLeast loveMost x)
     (choose (ltb k parametersAt) (inSpan 0 demandMost x)
     (choose (leb bufferAt k) (inSpan (minus registerMost) registerMost x)
     (choose (eqb ((k - parametersAt) % 2) 0) (inSpan cycleLeast cycleMost x)

@@ -1,6 +1,6 @@
 // The saved image: the entries that write and read it. Document 01, "The saved image".
-pub mod form;
-pub mod range;
+mod form;
+mod range;
 
 use crate::form::ENTRIES;
 use crate::form::IMAGE;

@@ -19,7 +19,7 @@ use Rattle.figures.specs.Decimal.{valueOf}
 use Rattle.figures.specs.Signed.{minusChar, withSign, figuresOf, parsedOf}
 use Rattle.figures.specs.declared.Parsed.{Parsed}
 use Rattle.card.specs.Layout.{Card, iaAt, lecomAddressAt, loveAddressAt, loveAt, demandsAt, parametersAt, registers, bufferAt, operationalAt, savedAt, wordCount, memorySize, pendingSize}
-use Rattle.card.specs.Tables.{inSpan, allIn, fitAddresses, fitParameters, fitWords, fitPending, fit, loveLeast, loveHighest, demandMost, registerMost}
+use Rattle.card.specs.Tables.{inSpan, allIn, fitAddresses, fitParameters, fitWords, fitPending, fit, loveLeast, loveMost, demandMost, registerMost}
 use Rattle.card.specs.Reply.{Reply, onWords, shell, roomLeast}
 use Rattle.card.proofs.Facts.{and-true, allIn-set}
 use Rattle.card.proofs.Scans.{allIn-parts}
@@ -117,7 +117,7 @@ module _ (ws ws′ : List ℕ) (front : take bufferAt ws′ ≡ take bufferAt ws
   unfolding fitWords
   words-fit e r =
       let a = and-true (fitAddresses (getD ws iaAt 0) (getD ws lecomAddressAt 0) (getD ws loveAddressAt 0)) _ e in
-      let b = and-true (allIn loveLeast loveHighest (part ws loveAt demandsAt)) _ (a .1) in
+      let b = and-true (allIn loveLeast loveMost (part ws loveAt demandsAt)) _ (a .1) in
       let d = and-true (allIn 0 demandMost (part ws demandsAt parametersAt)) _ (b .1) in
       let p = and-true (fitParameters (part ws parametersAt bufferAt)) _ (d .1) in
       rw (
@@ -140,7 +140,7 @@ module _ (ws : List ℕ) (long : length ws ≡ wordCount) (fits : fitWords ws �
   unfolding fitWords
   registers-fit =
       let a = and-true (fitAddresses (getD ws iaAt 0) (getD ws lecomAddressAt 0) (getD ws loveAddressAt 0)) _ fits in
-      let b = and-true (allIn loveLeast loveHighest (part ws loveAt demandsAt)) _ (a .1) in
+      let b = and-true (allIn loveLeast loveMost (part ws loveAt demandsAt)) _ (a .1) in
       let d = and-true (allIn 0 demandMost (part ws demandsAt parametersAt)) _ (b .1) in
       let p = and-true (fitParameters (part ws parametersAt bufferAt)) _ (d .1) in
       let n : length (drop bufferAt ws) ≤ wordCount - bufferAt = rw length-drop (omega arith) in

@@ -12,7 +12,7 @@ use Rattle.wire.specs.Buffer.{part}
 use Rattle.wire.specs.Word.{minus}
 use Rattle.wire.proofs.Cases.{by-choice}
 use Rattle.card.specs.Layout.{Card, iaAt, lecomAddressAt, loveAddressAt, loveAt, loveCount, demandsAt, parametersAt, bufferAt, wordCount, memorySize, pendingSize}
-use Rattle.card.specs.Tables.{inSpan, allIn, fitAddresses, fitParameters, fitWords, fitPending, fit, loveLeast, loveHighest, demandMost, registerMost}
+use Rattle.card.specs.Tables.{inSpan, allIn, fitAddresses, fitParameters, fitWords, fitPending, fit, loveLeast, loveMost, demandMost, registerMost}
 use Rattle.card.specs.Reply.{Reply, onWords, shell, roomLeast}
 use Rattle.card.proofs.Facts.{and-true, allIn-set}
 use Rattle.love.specs.Frame.{asked}
@@ -33,11 +33,11 @@ module _ (ws : List ℕ) (k word : ℕ) (h : k < loveCount) where
   part-set : part (set ws (loveAt + k) word) loveAt demandsAt ≡ set (part ws loveAt demandsAt) k word
   part-set = ap (take loveCount) (drop-set-add loveAt ws k word) ∙ take-set-lt loveCount (drop loveAt ws) k word h
 
-  stored-fit : fitWords ws ≡ true → inSpan loveLeast loveHighest word ≡ true → fitWords (set ws (loveAt + k) word) ≡ true
+  stored-fit : fitWords ws ≡ true → inSpan loveLeast loveMost word ≡ true → fitWords (set ws (loveAt + k) word) ≡ true
   unfolding fitWords
   stored-fit e s =
       let a = and-true (fitAddresses (getD ws iaAt 0) (getD ws lecomAddressAt 0) (getD ws loveAddressAt 0)) _ e in
-      let b = and-true (allIn loveLeast loveHighest (part ws loveAt demandsAt)) _ (a .1) in
+      let b = and-true (allIn loveLeast loveMost (part ws loveAt demandsAt)) _ (a .1) in
       rw (
         word-kept iaAt (omega arith),
         word-kept lecomAddressAt (omega arith),
@@ -47,7 +47,7 @@ module _ (ws : List ℕ) (k word : ℕ) (h : k < loveCount) where
         part-kept parametersAt bufferAt (omega arith),
         part-kept bufferAt wordCount (omega arith),
         a .0,
-        allIn-set loveLeast loveHighest (part ws loveAt demandsAt) k word (b .0) s,
+        allIn-set loveLeast loveMost (part ws loveAt demandsAt) k word (b .0) s,
       )
       (b .1)
 

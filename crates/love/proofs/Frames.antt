@@ -15,7 +15,7 @@ use Rattle.wire.proofs.Cases.{by-choice}
 use Rattle.figures.specs.Figure.{upperHex, noByte, allFigures}
 use Rattle.figures.proofs.Characters.{pair-figures}
 use Rattle.card.specs.Layout.{loveCount}
-use Rattle.card.specs.Tables.{inSpan, loveLeast, loveHighest}
+use Rattle.card.specs.Tables.{inSpan, loveLeast, loveMost}
 use Rattle.card.proofs.Facts.{and-true}
 use Rattle.love.specs.Form.{shortest, longest, lengthRight, addressAt, fieldAt}
 use Rattle.love.specs.Frame.{byteAt, orderWrite, orderBy, orderIn, orderHere, asked}
@@ -37,7 +37,7 @@ Within (Silent number) = Unit {0}
 Within (Refused number code) = Unit {0}
 Within Probe = Unit {0}
 Within (Read k) = k < loveCount
-Within (Write k w) = (k < loveCount) × (inSpan loveLeast loveHighest w ≡ true)
+Within (Write k w) = (k < loveCount) × (inSpan loveLeast loveMost w ≡ true)
 
 -- a choice, of which the other way is a refusal
 or-silent : (t : Bool) (o : Order) (n : ℕ) → (t ≡ true → Within o) → Within (choose t o (Silent n))

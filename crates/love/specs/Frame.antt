@@ -13,7 +13,7 @@ use Rattle.figures.specs.Decimal.{valueOf}
 use Rattle.figures.specs.Signed.{withSign}
 use Rattle.card.specs.Numbers.{foreignAddress, frameForm, checkCharacter, commandUnknown, valueOutside}
 use Rattle.card.specs.Layout.{loveCount}
-use Rattle.card.specs.Tables.{inSpan, loveLeast, loveHighest}
+use Rattle.card.specs.Tables.{inSpan, loveLeast, loveMost}
 use Rattle.love.specs.Form.{lengthRight, stx, etx, filterAt, addressAt, fieldAt, tail, hundred, filterOf}
 use Rattle.love.specs.declared.frame.Order.{Order}
 use Rattle.love.specs.declared.frame.Order.the-variants.{Silent, Refused, Probe, Read, Write}
@@ -142,7 +142,7 @@ unfoldable pub orderWrite : ℕ → List ℕ → Order
 orderWrite k field =
     unless (allFigures decimal (part field valueAt signAt)) valueOutside fieldError
     (unless (signRight field) valueOutside fieldError
-    (unless (inSpan loveLeast loveHighest (numberIn field)) valueOutside outOfRange
+    (unless (inSpan loveLeast loveMost (numberIn field)) valueOutside outOfRange
     (Write k (numberIn field))))
 
 -- "0100, 0102, 0104, 0105 read with d = 4; 0200, 0202, 0204, 0205 write with d = 10; else 5, code 01; a wrong d is 3, code 05."

@@ -18,7 +18,7 @@ ghost use Rattle.wire.specs.Buffer.{put, part, overlay};
 ghost use Rattle.wire.specs.Sum.{sumOf};
 ghost use Rattle.figures.specs.Figure.{pairOf};
 ghost use Rattle.card.specs.Layout.{loveAt, loveCount, wordCount, memorySize};
-ghost use Rattle.card.specs.Tables.{loveMost};
+ghost use Rattle.card.specs.Tables.{loveAddressMost};
 ghost use Rattle.card.specs.Probe.{readingOf};
 ghost use Rattle.card.specs.Reply.{Wrote, GaveWords, roomLeast};
 ghost use Rattle.love.specs.Form.{stx, ack, filterAt, fieldAt, tail};
@@ -53,7 +53,7 @@ const ZERO: u8 = b'0';
 
 // Writes what begins every reply: STX, filter and address.
 fn put_unit(out: &mut [u8], address: u32)
-    requires { ⌜ (address ≤ loveMost) × (roomLeast ≤ length (now out)) ⌝ }
+    requires { ⌜ (address ≤ loveAddressMost) × (roomLeast ≤ length (now out)) ⌝ }
     ensures { λ _. ⌜ now (out .exit) ≡ overlay (stx ∷ unitOf address) (now (out .entry)) ⌝ }
 {
     out[0] = Love::STX;
@@ -74,7 +74,7 @@ fn put_end(out: &mut [u8], end: usize) -> usize
 
 // Writes an error reply.
 fn put_error(out: &mut [u8], address: u32, code: u8) -> usize
-    requires { ⌜ (address ≤ loveMost) × (roomLeast ≤ length (now out)) ⌝ }
+    requires { ⌜ (address ≤ loveAddressMost) × (roomLeast ≤ length (now out)) ⌝ }
     ensures { λ r. ⌜ Wrote (errorReply address code) (now (out .entry)) r (now (out .exit)) ⌝ }
 {
     put_unit(out, address);
@@ -87,7 +87,7 @@ fn put_error(out: &mut [u8], address: u32, code: u8) -> usize
 
 // Writes the reply to a write.
 fn put_written(out: &mut [u8], address: u32) -> usize
-    requires { ⌜ (address ≤ loveMost) × (roomLeast ≤ length (now out)) ⌝ }
+    requires { ⌜ (address ≤ loveAddressMost) × (roomLeast ≤ length (now out)) ⌝ }
     ensures { λ r. ⌜ Wrote (normalReply address writtenField) (now (out .entry)) r (now (out .exit)) ⌝ }
 {
     put_unit(out, address);
@@ -107,7 +107,7 @@ fn sign_of(word: u32) -> u8
 
 // Writes the reply to a read.
 fn put_value(out: &mut [u8], address: u32, word: u32) -> usize
-    requires { ⌜ (address ≤ loveMost) × (roomLeast ≤ length (now out)) ⌝ }
+    requires { ⌜ (address ≤ loveAddressMost) × (roomLeast ≤ length (now out)) ⌝ }
     ensures { λ r. ⌜ Wrote (normalReply address (valueField word)) (now (out .entry)) r (now (out .exit)) ⌝ }
 {
     put_unit(out, address);
@@ -118,7 +118,7 @@ fn put_value(out: &mut [u8], address: u32, word: u32) -> usize
 
 // Writes the reply to 00.
 fn put_status(out: &mut [u8], address: u32, first: u8, fourth: u8, number: u32) -> usize
-    requires { ⌜ (address ≤ loveMost) × (roomLeast ≤ length (now out)) ⌝ }
+    requires { ⌜ (address ≤ loveAddressMost) × (roomLeast ≤ length (now out)) ⌝ }
     ensures { λ r. ⌜ Wrote (normalReply address (statusField first fourth number)) (now (out .entry)) r (now (out .exit)) ⌝ }
 {
     put_unit(out, address);
@@ -132,7 +132,7 @@ fn put_status(out: &mut [u8], address: u32, first: u8, fourth: u8, number: u32) 
 
 // Answers 00 by a probe's code: the temperature is taken out of the reading, or the fault is answered.
 fn put_probe(out: &mut [u8], address: u32, code: u8) -> usize
-    requires { ⌜ (address ≤ loveMost) × (roomLeast ≤ length (now out)) ⌝ }
+    requires { ⌜ (address ≤ loveAddressMost) × (roomLeast ≤ length (now out)) ⌝ }
     ensures { λ r. ⌜ Wrote (normalReply address (probeField (readingOf code))) (now (out .entry)) r (now (out .exit)) ⌝ }
 {
     let Reading::Temperature(tenths) = read_code(code) else {
@@ -156,7 +156,7 @@ fn store(words: &mut [u32], k: usize, word: u32)
 
 // Carries out what a frame asks on the words of a fit card.
 pub fn obey(words: &mut [u32], memory: &[u8], f: &[u8], out: &mut [u8]) -> Outcome
-    requires { ⌜ ((length (now words) ≡ wordCount) × (addressOf (now words) ≤ loveMost)) × ((length (now memory) ≡ memorySize) × (roomLeast ≤ length (now out))) ⌝ }
+    requires { ⌜ ((length (now words) ≡ wordCount) × (addressOf (now words) ≤ loveAddressMost)) × ((length (now memory) ≡ memorySize) × (roomLeast ≤ length (now out))) ⌝ }
     ensures { λ r. ⌜ GaveWords (obeyed (now (words .entry)) (now (memory .entry)) (asked (addressOf (now (words .entry))) (now (f .entry)))) (now (out .entry)) (r .number) (r .len) (now (words .exit)) (now (out .exit)) ⌝ }
 {
     let address = words[LOVE_ADDRESS];

@@ -1,7 +1,7 @@
 // The form of a Love frame: STX, filter, two address figures, data, two checksum figures, ETX. Document 01, "Love".
 ghost use mathlib.Core.Path.{_≡_};
 ghost use Prim.Native.Nat.{_≤_};
-ghost use Rattle.card.specs.Tables.{loveMost};
+ghost use Rattle.card.specs.Tables.{loveAddressMost};
 ghost use Rattle.love.specs.Form.{lengthRight, filterOf};
 
 // How many addresses share a filter character.
@@ -41,7 +41,7 @@ impl Love {
 
     // The filter character: one of the four letters, by the address's hundreds.
     pub fn filter(address: u32) -> u8
-        requires { ⌜ address ≤ loveMost ⌝ }
+        requires { ⌜ address ≤ loveAddressMost ⌝ }
         ensures { λ r. ⌜ r ≡ filterOf address ⌝ }
     {
         let letters = b"LOVE";

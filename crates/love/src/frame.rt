@@ -22,7 +22,7 @@ ghost use lib.Dec.{eqb};
 ghost use lib.ListN.{length};
 ghost use Rattle.wire.specs.Buffer.{part};
 ghost use Rattle.figures.specs.Figure.{decimal, upperHex, hex, allFigures};
-ghost use Rattle.card.specs.Tables.{loveMost};
+ghost use Rattle.card.specs.Tables.{loveAddressMost};
 ghost use Rattle.love.specs.Form.{shortest, addressAt};
 ghost use Rattle.love.specs.Frame.{forUnit, checksumRight, byteAt, parameterOf, writeLength, valueAt, signAt, plusSign, minusSign, numberIn, orderWrite, orderBy, orderIn, orderHere, asked};
 
@@ -104,7 +104,7 @@ fn byte_at(s: &[u8], i: usize, limit: u8) -> u32
 
 // Whether a frame's filter and its address figures, read as unit, are those of the address.
 fn is_for(address: u32, unit: u32, f: &[u8]) -> bool
-    requires { ⌜ ((address ≤ loveMost) × (shortest ≤ length (now f))) × (unit ≡ byteAt upperHex (now f) addressAt) ⌝ }
+    requires { ⌜ ((address ≤ loveAddressMost) × (shortest ≤ length (now f))) × (unit ≡ byteAt upperHex (now f) addressAt) ⌝ }
     ensures { λ r. ⌜ r ≡ forUnit address (now (f .entry)) ⌝ }
 {
     let filter = Love::filter(address);
@@ -224,7 +224,7 @@ fn order_in(field: &[u8]) -> Order
 
 // A frame of a right form: whose it is, its checksum, its characters.
 fn order_here(address: u32, unit: u32, f: &[u8]) -> Order
-    requires { ⌜ ((address ≤ loveMost) × (shortest ≤ length (now f))) × (unit ≡ byteAt upperHex (now f) addressAt) ⌝ }
+    requires { ⌜ ((address ≤ loveAddressMost) × (shortest ≤ length (now f))) × (unit ≡ byteAt upperHex (now f) addressAt) ⌝ }
     ensures { λ r. ⌜ r ≡ orderHere address (now (f .entry)) ⌝ }
 {
     if !is_for(address, unit, f) {
@@ -243,7 +243,7 @@ fn order_here(address: u32, unit: u32, f: &[u8]) -> Order
 
 // What the frame f asks of the unit at an address.
 pub fn order_of(address: u32, f: &[u8]) -> Order
-    requires { ⌜ address ≤ loveMost ⌝ }
+    requires { ⌜ address ≤ loveAddressMost ⌝ }
     ensures { λ r. ⌜ r ≡ asked address (now (f .entry)) ⌝ }
 {
     let n = f.len();

@@ -12,7 +12,7 @@ use Rattle.wire.specs.Choose.{choose}
 use Rattle.wire.specs.Buffer.{part}
 use Rattle.wire.proofs.Cases.{by-choice}
 use Rattle.card.specs.Layout.{Card, iaAt, lecomAddressAt, loveAddressAt, loveAt, demandsAt, channels, parametersAt, parameterCount, keptAt, bufferAt, wordCount, memorySize, pendingSize}
-use Rattle.card.specs.Tables.{inSpan, allIn, fitAddresses, fitParameters, fitWords, fitPending, fit, loveLeast, loveHighest, demandMost, cycleLeast, cycleMost, floorMost}
+use Rattle.card.specs.Tables.{inSpan, allIn, fitAddresses, fitParameters, fitWords, fitPending, fit, loveLeast, loveMost, demandMost, cycleLeast, cycleMost, floorMost}
 use Rattle.card.specs.Reply.{Reply, WordsReply, onWords, shell, roomLeast}
 use Rattle.card.proofs.Facts.{and-true, allIn-set}
 use Rattle.lucid.specs.Form.{fits, channelsFrom, numberAt}
@@ -44,7 +44,7 @@ module _ (ws : List ℕ) (i v : ℕ) (least : demandsAt ≤ i) (most : i < buffe
   unfolding fitWords
   words-fit demands parameters =
       let a = and-true (fitAddresses (getD ws iaAt 0) (getD ws lecomAddressAt 0) (getD ws loveAddressAt 0)) _ fine in
-      let b = and-true (allIn loveLeast loveHighest (part ws loveAt demandsAt)) _ (a .1) in
+      let b = and-true (allIn loveLeast loveMost (part ws loveAt demandsAt)) _ (a .1) in
       let d = and-true (allIn 0 demandMost (part ws demandsAt parametersAt)) _ (b .1) in
       let p = and-true (fitParameters (part ws parametersAt bufferAt)) _ (d .1) in
       rw (
@@ -64,7 +64,7 @@ demands-of : (ws : List ℕ) → fitWords ws ≡ true → (allIn 0 demandMost (p
 unfolding fitWords
 demands-of ws fine =
     let a = and-true (fitAddresses (getD ws iaAt 0) (getD ws lecomAddressAt 0) (getD ws loveAddressAt 0)) _ fine in
-    let b = and-true (allIn loveLeast loveHighest (part ws loveAt demandsAt)) _ (a .1) in
+    let b = and-true (allIn loveLeast loveMost (part ws loveAt demandsAt)) _ (a .1) in
     let d = and-true (allIn 0 demandMost (part ws demandsAt parametersAt)) _ (b .1) in
     (d .0, and-true (fitParameters (part ws parametersAt bufferAt)) _ (d .1) .0)
 

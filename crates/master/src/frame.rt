@@ -1,7 +1,8 @@
 // The frames that the master sends, and the answers that it expects in the same form.
 use crate::request::Kind;
-use datalink::answer::write_frame;
+use card::layout::DATA_MOST;
 use datalink::form::Datalink;
+use datalink::write::write_frame;
 ghost use mathlib.Core.Path.{_≡_};
 ghost use mathlib.Core.List.{[], _∷_};
 ghost use Prim.Native.Nat.{_+_, _≤_};
@@ -54,7 +55,7 @@ pub fn write_change(
         Kind::Bytes => write(out, second, sent.len(), address, sent),
         Kind::Bits => {
             let num = 2 * sent.len();
-            let mut data = [0u8; 32];
+            let mut data = [0u8; DATA_MOST];
             interleave(sent, states, &mut data);
             write(out, second, num, address, &data[..num])
         }

@@ -1,11 +1,11 @@
--- `datalink::answer::write_frame` meets its contract: the frame grows at its end, and the LRC comes last. Assumes nothing.
+-- `datalink::write::write_frame` meets its contract: the frame grows at its end, and the LRC comes last. Assumes nothing.
 use Rattle.datalink.proofs.Responses.{framed-length, framed-written}
 use lib.ListN.{length-set, length-append}
 use mathlib.Core.List.{_++_}
 use native.Mathlib.Omega.{arith}
 use borrow.Author.Needs.{needs}
-use Rattle.datalink.proofs.answer.write_frame.Statement.{statement}
-use Rattle.datalink.proofs.answer.write_frame.Tie as tie
+use Rattle.datalink.proofs.write.write_frame.Statement.{statement}
+use Rattle.datalink.proofs.write.write_frame.Tie as tie
 
 slice-write-out : tie.Need-slice-write-out
 slice-write-out c = search needs
