@@ -11,7 +11,12 @@
  * answer are never written.
  *
  * REFUSALS. Every entry takes all inputs and returns one of the numbers below. A number of 2 or more changes no table and
- * writes nothing but the wire bytes of that refusal, whose count is in *len (0 for none).
+ * writes nothing but the wire bytes of that refusal, whose count is in *len (0 for none). *len is written by every call that
+ * has one, and so is *phase by every step.
+ *
+ * WORST CASES. Every call ends, recurses nowhere and loops only over tables, frames and fields of bounded length. The figure
+ * with each entry is the dearest call measured on x86-64, in instructions, and the stack bytes of every call
+ * (docs/PERFORMANCE.md).
  */
 #ifndef NAKSHVILOR_H
 #define NAKSHVILOR_H
@@ -67,24 +72,31 @@ enum {
 #define NK_WRITABLE 16u      /* the first byte that a Datalink change may name */
 
 /* Places in pending. Zero NK_KIND means that nothing is pending; the rest is then not looked at. */
-#define NK_KIND 0u
+#define NK_KIND 0u           /* 0 none, 1 Change, 2 Change Bits */
+#define NK_NUM 1u            /* NUM as received */
+#define NK_LOW_ADDRESS 2u
+#define NK_HIGH_ADDRESS 3u
+#define NK_DATA 4u           /* NUM data bytes, 32 at most */
 
-/* Sets the code of probe `channel` (0 to 3). NK_DONE, NK_CARD_UNFIT, or NK_RANGE_UNKNOWN for another channel. */
+/* Sets the code of probe `channel` (0 to 3). NK_DONE, NK_CARD_UNFIT, or NK_RANGE_UNKNOWN for another channel.
+ * Worst case: 596 instructions, 72 bytes of stack. */
 uint8_t nk_set_code(const uint32_t *words, size_t words_count, uint8_t *memory, size_t memory_count,
                     const uint8_t *pending, size_t pending_count, uint32_t channel, uint8_t code);
 
 /* Restart: buffer and operational registers become the saved ones, parameters their saved copy, demands 65535, probe codes
- * 255, nothing pending; the rest stays. NK_DONE or NK_CARD_UNFIT. */
+ * 255, nothing pending; the rest stays. NK_DONE or NK_CARD_UNFIT. Worst case: 739 instructions, 104 bytes of stack. */
 uint8_t nk_restart(uint32_t *words, size_t words_count, uint8_t *memory, size_t memory_count, uint8_t *pending,
                    size_t pending_count);
 
 /* The governor's reading of a channel. NK_ANSWERED: *degrees is half the code less 40, exactly. NK_PROBE_FAULT: the probe
- * has failed; NK_CARD_UNFIT, NK_RANGE_UNKNOWN: refused. In these cases *degrees is not written: there are no degrees. */
+ * has failed; NK_CARD_UNFIT, NK_RANGE_UNKNOWN: refused. In these cases *degrees is not written: there are no degrees.
+ * Worst case: 603 instructions, 72 bytes of stack. */
 uint8_t nk_governor(const uint32_t *words, size_t words_count, const uint8_t *memory, size_t memory_count,
                     const uint8_t *pending, size_t pending_count, uint32_t channel, float *degrees);
 
 /* One whole request of a dialect. `frame` is the request as received; the answer is written to the front of `answer`
- * (at least NK_ROOM bytes, else NK_BUFFER_SHORT) and its length to *len, which is 0 where nothing is to be sent. */
+ * (at least NK_ROOM bytes, else NK_BUFFER_SHORT) and its length to *len, which is 0 where nothing is to be sent. Worst cases: Datalink 985
+ * instructions and 120 bytes of stack, LECOM 1139 and 120, Love 1061 and 136, LucidControl 780 and 120. */
 uint8_t nk_datalink(const uint32_t *words, size_t words_count, uint8_t *memory, size_t memory_count, uint8_t *pending,
                     size_t pending_count, const uint8_t *frame, size_t frame_count, uint8_t *answer, size_t answer_count,
                     size_t *len);
@@ -98,27 +110,29 @@ uint8_t nk_lucid(uint32_t *words, size_t words_count, const uint8_t *memory, siz
                  size_t pending_count, const uint8_t *frame, size_t frame_count, uint8_t *answer, size_t answer_count,
                  size_t *len);
 
-/* Writes the saved image: NK_ANSWERED with NK_IMAGE bytes at the front of `image`, NK_CARD_UNFIT, or NK_BUFFER_SHORT. */
+/* Writes the saved image: NK_ANSWERED with NK_IMAGE bytes at the front of `image`, NK_CARD_UNFIT, or NK_BUFFER_SHORT.
+ * Worst case: 11443 instructions, 152 bytes of stack. */
 uint8_t nk_write_image(const uint32_t *words, size_t words_count, const uint8_t *memory, size_t memory_count,
                        const uint8_t *pending, size_t pending_count, uint8_t *image, size_t image_count, size_t *len);
 
 /* Reads an image: the addresses, saved registers, saved parameters and Love parameters of the card become the image's.
  * NK_DONE; NK_CARD_UNFIT for the card as lent, NK_IMAGE_LENGTH, NK_IMAGE_PADDING, or NK_CARD_UNFIT for an entry of the
- * image outside its range. */
+ * image outside its range. Worst case: 16079 instructions, 120 bytes of stack. */
 uint8_t nk_read_image(uint32_t *words, size_t words_count, const uint8_t *memory, size_t memory_count,
                       const uint8_t *pending, size_t pending_count, const uint8_t *image, size_t image_count);
 
 /* The line master's step: the host's side of one Datalink exchange (change, acknowledge, read back).
  *
  * A request is `kind`, the unit's I.A., a 16-bit address, and what is to be written: for NK_BYTES `sent` holds the bytes (at
- * most 32) and `states` is not looked at; for NK_BITS `sent` holds the masks and `states` the states (at most 16 each).
+ * most 32) and `states` is not looked at; for any other kind `sent` holds the masks and `states` the states (at most 16 each).
  * *phase starts as NK_NEW and is handed from step to step with the same request. `answer` is the answer to the frame last
  * sent, or nothing (count 0). The step writes the next frame to the front of `frame` (at least NK_ROOM bytes) and its length
  * to *len.
  *
  * NK_ANSWERED: send the frame. NK_DONE: the exchange has ended, *phase says how: NK_ENDED_DONE (every byte, or every forced
  * bit, was read back as asked) or NK_ENDED_UNKNOWN. Refused, with nothing sent and no step moved: NK_VALUE_OUTSIDE for the
- * request, NK_BUFFER_SHORT, NK_NOTHING_PENDING after the end. A phase outside the list counts as NK_ENDED_UNKNOWN. */
+ * request, NK_BUFFER_SHORT, NK_NOTHING_PENDING after the end. A phase outside the list counts as NK_ENDED_UNKNOWN,
+ * and is then stored as that. Worst case: 504 instructions, 184 bytes of stack. */
 enum { NK_BYTES = 0, NK_BITS = 1 };
 enum {
     NK_NEW = 0,
