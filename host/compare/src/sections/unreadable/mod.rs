@@ -13,17 +13,7 @@ const SCENES: usize = 7;
 /// Lines of one scene.
 const LINES: usize = 8;
 /// Tables that readable lines poke: all small ones but the pending change, of which entries may be unknown.
-const POKED_TABLES: [&str; 9] = [
-    "address",
-    "probe",
-    "buffer",
-    "operational",
-    "saved",
-    "love",
-    "demand",
-    "parameter",
-    "kept",
-];
+const POKED_TABLES: &[&str] = SMALL_TABLES.split_at(SMALL_TABLES.len() - 1).0;
 /// Places of a table that readable lines poke, from the first on.
 const POKED_PLACES: usize = 3;
 /// Lengths of long lines: one below the longest, the longest, one above, and far above.
@@ -130,7 +120,7 @@ fn spoiled(out: &mut Writer) -> Vec<u8> {
 /// Each odd number in turn, in the place of several numbers of readable lines.
 fn numbers(out: &mut Writer, turn: usize) {
     let number = ODD_NUMBERS[turn % ODD_NUMBERS.len()];
-    let table = out.rng.pick(&POKED_TABLES);
+    let table = out.rng.pick(POKED_TABLES);
     let place = out.rng.below(POKED_PLACES);
     let mut lines = [
         format!("probe {number} 1"),
@@ -154,7 +144,7 @@ fn numbers(out: &mut Writer, turn: usize) {
     for line in &lines[..LINES] {
         out.raw(line.as_bytes());
     }
-    let table = out.rng.pick(&POKED_TABLES);
+    let table = out.rng.pick(POKED_TABLES);
     out.raw(format!("poke {table} {place} {number}").as_bytes());
     out.set_pending(0, 0, 0);
     out.raw(format!("poke pending {number} 1").as_bytes());
@@ -217,7 +207,7 @@ fn readable(out: &mut Writer) -> Vec<String> {
     let to = out.addresses;
     let byte = rng.byte();
     let shown = rng.pick(&SMALL_TABLES);
-    let poked = rng.pick(&POKED_TABLES);
+    let poked = rng.pick(POKED_TABLES);
     let line = match rng.below(14) {
         0 => format!("probe {} {byte}", byte % 5),
         1 => "restart".to_owned(),
