@@ -3,8 +3,11 @@ ghost use mathlib.Core.Path.{_≡_};
 ghost use Prim.Native.Nat.{_+_, _*_, _/_, _%_, _^_, _≤_, _<_};
 ghost use lib.ListN.{length};
 ghost use Rattle.bits.specs.Bits.{field, putField, Within};
-ghost use Rattle.bits.specs.Bytes.{withMiddle};
+ghost use Rattle.bits.specs.Bytes.{byteValues, withMiddle};
 ghost use Rattle.bits.specs.Reader.{taken};
+
+// How many values a byte has.
+const BYTE_VALUES: u64 = 256;
 
 fn wide(x: u8) -> u64
     ensures { λ r. ⌜ r ≡ x ⌝ }
@@ -13,9 +16,9 @@ fn wide(x: u8) -> u64
 }
 
 fn low_byte(n: u64) -> u8
-    ensures { λ r. ⌜ r ≡ n % 256 ⌝ }
+    ensures { λ r. ⌜ r ≡ n % byteValues ⌝ }
 {
-    (n % 256) as u8
+    (n % BYTE_VALUES) as u8
 }
 
 // The number that `count` bytes from byte `first` on stand for.
@@ -26,7 +29,7 @@ fn gather(image: &[u8], first: usize, count: usize) -> u64
     let mut n: u64 = 0;
     let mut i: usize = 0;
     while i < count {
-        n = n * 256 + wide(image[first + i]);
+        n = n * BYTE_VALUES + wide(image[first + i]);
         i += 1;
     }
     n
@@ -42,7 +45,7 @@ fn scatter(image: &mut [u8], first: usize, count: usize, n: u64)
     while 0 < left {
         left -= 1;
         image[first + left] = low_byte(rest);
-        rest = rest / 256;
+        rest = rest / BYTE_VALUES;
     }
 }
 

@@ -1,4 +1,4 @@
--- From a test that passed to the plain facts of specs/Fit.antt. Assumes nothing.
+-- From the test of a card to its parts and back, and to the plain facts of specs/Fit.antt. Assumes nothing.
 use mathlib.Core.Path.{_≡_, refl, _∙_, subst}
 use mathlib.Core.Bool.{Bool, true, false, _&&_, not}
 use mathlib.Core.List.{List, [], _∷_}
@@ -48,40 +48,74 @@ pub span-most : (hi x : ℕ) → leb 0 hi ≡ true → inSpan 0 hi x ≡ true �
 unfolding inSpan choose
 span-most hi x z e = leb-true x hi (and-true (leb 0 x) (leb x hi) (rw z at e) .1)
 
-module _ (card : Card) (fits : fit card ≡ true) where
-  words-fit : (length (card .words) ≡ wordCount) × ((length (card .memory) ≡ memorySize) × ((length (card .pending) ≡ pendingSize) × ((fitWords (card .words) ≡ true) × (fitPending (card .pending) ≡ true))))
-  unfolding fit
-  words-fit =
-      let a = and-true (eqb (length (card .words)) wordCount) _ fits in
-      let b = and-true (eqb (length (card .memory)) memorySize) _ (a .1) in
-      let d = and-true (eqb (length (card .pending)) pendingSize) _ (b .1) in
-      (eqb-true (length (card .words)) wordCount (a .0), (eqb-true (length (card .memory)) memorySize (b .0), (eqb-true (length (card .pending)) pendingSize (d .0), and-true (fitWords (card .words)) (fitPending (card .pending)) (d .1))))
+-- the five tests of a fit card, and those of its words
+pub record TablesFit (card : Card) : Type 0 where
+  pub words-length : length (card .words) ≡ wordCount
+  pub memory-length : length (card .memory) ≡ memorySize
+  pub pending-length : length (card .pending) ≡ pendingSize
+  pub words-fit : fitWords (card .words) ≡ true
+  pub pending-fit : fitPending (card .pending) ≡ true
 
-  pub fit-facts : Fit card
-  unfolding fitWords fitAddresses
-  fit-facts =
-      let ws = card .words in
-      let n : length ws ≡ wordCount = words-fit .0 in
-      let w : fitWords ws ≡ true = words-fit .1 .1 .1 .0 in
-      let a = and-true (fitAddresses (getD ws iaAt 0) (getD ws lecomAddressAt 0) (getD ws loveAddressAt 0)) _ w in
-      let b = and-true (allIn loveLeast loveMost (part ws loveAt demandsAt)) _ (a .1) in
-      let d = and-true (allIn 0 demandMost (part ws demandsAt parametersAt)) _ (b .1) in
-      let r = and-true (fitParameters (part ws parametersAt bufferAt)) (allIn (minus registerMost) registerMost (part ws bufferAt wordCount)) (d .1) in
-      let x = and-true (leb (getD ws iaAt 0) iaMost) _ (a .0) in
-      let y = and-true (leb lecomLeast (getD ws lecomAddressAt 0) && (leb (getD ws lecomAddressAt 0) lecomMost && not (eqb (getD ws lecomAddressAt 0 % 10) 0))) _ (x .1) in
-      let z = and-true (leb lecomLeast (getD ws lecomAddressAt 0)) _ (y .0) in
-      let u = and-true (leb (getD ws lecomAddressAt 0) lecomMost) _ (z .1) in
-      let v = and-true (leb (getD ws loveAddressAt 0) loveAddressMost) _ (y .1) in
-      record {
-        words-length = n;
-        memory-length = words-fit .1 .0;
-        pending-length = words-fit .1 .1 .0;
-        ia = leb-true (getD ws iaAt 0) iaMost (x .0);
-        lecom-least = leb-true lecomLeast (getD ws lecomAddressAt 0) (z .0);
-        lecom-most = leb-true (getD ws lecomAddressAt 0) lecomMost (u .0);
-        love-most = leb-true (getD ws loveAddressAt 0) loveAddressMost (v .0);
-        love = λ k h. part-at loveLeast loveMost ws loveAt demandsAt k (b .0) (omega arith) (omega arith);
-        demand = λ k h. span-most demandMost (getD ws (demandsAt + k) 0) refl (part-at 0 demandMost ws demandsAt parametersAt k (d .0) (omega arith) (omega arith));
-        register = λ k h. part-at (minus registerMost) registerMost ws bufferAt wordCount k (r .1) (omega arith) (omega arith);
-        pending = words-fit .1 .1 .1 .1;
-      }
+pub record WordsFit (ws : List ℕ) : Type 0 where
+  pub addresses : fitAddresses (getD ws iaAt 0) (getD ws lecomAddressAt 0) (getD ws loveAddressAt 0) ≡ true
+  pub love : allIn loveLeast loveMost (part ws loveAt demandsAt) ≡ true
+  pub demands : allIn 0 demandMost (part ws demandsAt parametersAt) ≡ true
+  pub parameters : fitParameters (part ws parametersAt bufferAt) ≡ true
+  pub registers : allIn (minus registerMost) registerMost (part ws bufferAt wordCount) ≡ true
+
+pub fit-tables : (card : Card) → fit card ≡ true → TablesFit card
+unfolding fit
+fit-tables card fits =
+    let a = and-true (eqb (length (card .words)) wordCount) _ fits in
+    let b = and-true (eqb (length (card .memory)) memorySize) _ (a .1) in
+    let d = and-true (eqb (length (card .pending)) pendingSize) _ (b .1) in
+    let w = and-true (fitWords (card .words)) (fitPending (card .pending)) (d .1) in
+    record {
+      words-length = eqb-true (length (card .words)) wordCount (a .0);
+      memory-length = eqb-true (length (card .memory)) memorySize (b .0);
+      pending-length = eqb-true (length (card .pending)) pendingSize (d .0);
+      words-fit = w .0;
+      pending-fit = w .1;
+    }
+
+pub tables-fit : (card : Card) → TablesFit card → fit card ≡ true
+unfolding fit
+tables-fit card t = rw (t .words-length, t .memory-length, t .pending-length, t .words-fit, t .pending-fit)
+
+pub fit-words : (ws : List ℕ) → fitWords ws ≡ true → WordsFit ws
+unfolding fitWords
+fit-words ws fits =
+    let a = and-true (fitAddresses (getD ws iaAt 0) (getD ws lecomAddressAt 0) (getD ws loveAddressAt 0)) _ fits in
+    let b = and-true (allIn loveLeast loveMost (part ws loveAt demandsAt)) _ (a .1) in
+    let d = and-true (allIn 0 demandMost (part ws demandsAt parametersAt)) _ (b .1) in
+    let r = and-true (fitParameters (part ws parametersAt bufferAt)) (allIn (minus registerMost) registerMost (part ws bufferAt wordCount)) (d .1) in
+    record { addresses = a .0; love = b .0; demands = d .0; parameters = r .0; registers = r .1 }
+
+pub words-fit : (ws : List ℕ) → WordsFit ws → fitWords ws ≡ true
+unfolding fitWords
+words-fit ws w = rw (w .addresses, w .love, w .demands, w .parameters, w .registers)
+
+pub fit-facts : (card : Card) → fit card ≡ true → Fit card
+unfolding fitAddresses
+fit-facts card fits =
+    let ws = card .words in
+    let t = fit-tables card fits in
+    let w = fit-words ws (t .words-fit) in
+    let x = and-true (leb (getD ws iaAt 0) iaMost) _ (w .addresses) in
+    let y = and-true (leb lecomLeast (getD ws lecomAddressAt 0) && (leb (getD ws lecomAddressAt 0) lecomMost && not (eqb (getD ws lecomAddressAt 0 % 10) 0))) _ (x .1) in
+    let z = and-true (leb lecomLeast (getD ws lecomAddressAt 0)) _ (y .0) in
+    let u = and-true (leb (getD ws lecomAddressAt 0) lecomMost) _ (z .1) in
+    let v = and-true (leb (getD ws loveAddressAt 0) loveAddressMost) _ (y .1) in
+    record {
+      words-length = t .words-length;
+      memory-length = t .memory-length;
+      pending-length = t .pending-length;
+      ia = leb-true (getD ws iaAt 0) iaMost (x .0);
+      lecom-least = leb-true lecomLeast (getD ws lecomAddressAt 0) (z .0);
+      lecom-most = leb-true (getD ws lecomAddressAt 0) lecomMost (u .0);
+      love-most = leb-true (getD ws loveAddressAt 0) loveAddressMost (v .0);
+      love = λ k h. part-at loveLeast loveMost ws loveAt demandsAt k (w .love) (omega arith) (omega arith);
+      demand = λ k h. span-most demandMost (getD ws (demandsAt + k) 0) refl (part-at 0 demandMost ws demandsAt parametersAt k (w .demands) (omega arith) (omega arith));
+      register = λ k h. part-at (minus registerMost) registerMost ws bufferAt wordCount k (w .registers) (omega arith) (omega arith);
+      pending = t .pending-fit;
+    }

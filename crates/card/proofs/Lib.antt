@@ -5,3 +5,5 @@ pub mod Sweep
 pub mod Floats
 pub mod Probes
 pub mod Keeping
+pub mod Changed
+pub mod Staying

@@ -1,11 +1,11 @@
 -- One turn of the scans of specs/Tables.antt: what is left of a test after the next words. Assumes nothing.
-use mathlib.Core.Path.{_≡_, refl, ap, _∙_}
-use mathlib.Core.Bool.{Bool, true, false, _&&_}
-use mathlib.Core.List.{List, [], _∷_}
-use Prim.Native.Nat.{ℕ, zero, suc, _+_, _<_, _≤_}
+use mathlib.Core.Path.{_≡_, refl, sym, ap, _∙_}
+use mathlib.Core.Bool.{Bool, true, false, _&&_, _||_}
+use mathlib.Core.List.{List, [], _∷_, _++_}
+use Prim.Native.Nat.{ℕ, zero, suc, _+_, _%_, _<_, _≤_}
 use native.Mathlib.Omega.{arith}
 use native.Mathlib.Numerals.{add-one, add-two}
-use lib.ListN.{length, take, drop, getD}
+use lib.ListN.{length, take, drop, getD, take-append-drop}
 use lib.Seq.{drop-cons, drop-drop}
 use Rattle.card.specs.Tables.{inSpan, allIn, fitParameters, cycleLeast, cycleMost, floorMost}
 
@@ -21,12 +21,19 @@ pub and-false-right : (t : Bool) → (t && false) ≡ false
 and-false-right true = refl
 and-false-right false = refl
 
+pub or-true-right : (t : Bool) → (t || true) ≡ true
+or-true-right true = refl
+or-true-right false = refl
+
+-- the test of two lists one after the other
+pub allIn-append : (lo hi : ℕ) (s t : List ℕ) → allIn lo hi (s ++ t) ≡ (allIn lo hi s && allIn lo hi t)
+unfolding allIn
+allIn-append lo hi [] t = refl
+allIn-append lo hi (x ∷ s) t = ap (λ (r : Bool). inSpan lo hi x && r) (allIn-append lo hi s t) ∙ and-assoc (inSpan lo hi x) (allIn lo hi s) (allIn lo hi t)
+
 -- a list's test is that of its first k words and that of the rest
 pub allIn-parts : (lo hi k : ℕ) (s : List ℕ) → allIn lo hi s ≡ (allIn lo hi (take k s) && allIn lo hi (drop k s))
-unfolding allIn
-allIn-parts lo hi zero s = refl
-allIn-parts lo hi (suc k) [] = refl
-allIn-parts lo hi (suc k) (x ∷ s) = ap (λ (t : Bool). inSpan lo hi x && t) (allIn-parts lo hi k s) ∙ and-assoc (inSpan lo hi x) (allIn lo hi (take k s)) (allIn lo hi (drop k s))
+allIn-parts lo hi k s = ap (allIn lo hi) (sym (take-append-drop k s)) ∙ allIn-append lo hi (take k s) (drop k s)
 
 -- the same for three parts, the first two of n words each
 pub allIn-thirds : (lo hi n : ℕ) (s : List ℕ) → allIn lo hi s ≡ (allIn lo hi (take n s) && (allIn lo hi (take n (drop n s)) && allIn lo hi (drop (n + n) s)))
@@ -59,3 +66,13 @@ parameters-none [] i h = rest i
 parameters-none (x ∷ []) zero h = refl
 parameters-none (x ∷ y ∷ s) zero h = let z : ⊥ = omega arith in absurd z
 parameters-none (x ∷ s) (suc i) h = parameters-none s i (omega arith)
+
+-- pairs one after the other
+pub parameters-append : (s t : List ℕ) → length s % 2 ≡ 0 → fitParameters (s ++ t) ≡ (fitParameters s && fitParameters t)
+unfolding fitParameters
+parameters-append [] t h = refl
+parameters-append (x ∷ []) t h = let z : ⊥ = omega arith in absurd z
+parameters-append (x ∷ y ∷ s) t h =
+    let cycle = inSpan cycleLeast cycleMost x in
+    let floor = inSpan 0 floorMost y in
+    rw (parameters-append s t (omega arith), and-assoc floor (fitParameters s) (fitParameters t)) (and-assoc cycle (floor && fitParameters s) (fitParameters t))

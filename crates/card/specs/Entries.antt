@@ -19,15 +19,7 @@ withCode card channel code = record { words = card .words; memory = set (card .m
 unfoldable pub setCode : Card → ℕ → ℕ → Reply
 setCode card channel code = guarded card (choose (ltb channel channels) (silent done (withCode card channel code)) (silent rangeUnknown card))
 
--- "demands become 65,535"
-unfoldable pub fullDemands : List ℕ → List ℕ
-fullDemands ws = put ws demandsAt (replicate channels demandMost)
-
--- "parameters become their saved copy"
-unfoldable pub keptParameters : List ℕ → List ℕ
-keptParameters ws = put ws parametersAt (part ws keptAt bufferAt)
-
--- a copy of the registers becomes the saved one
+-- Restart: a copy of the registers becomes the saved one
 unfoldable pub savedCopy : ℕ → List ℕ → List ℕ
 savedCopy at ws = put ws at (part ws savedAt wordCount)
 
@@ -35,18 +27,27 @@ savedCopy at ws = put ws at (part ws savedAt wordCount)
 unfoldable pub savedRegisters : List ℕ → List ℕ
 savedRegisters ws = savedCopy operationalAt (savedCopy bufferAt ws)
 
--- "the pending change is dropped"
-unfoldable pub dropped : List ℕ → List ℕ
-dropped p = set p kindAt noChange
+-- "parameters become their saved copy"
+unfoldable pub keptParameters : List ℕ → List ℕ
+keptParameters ws = put ws parametersAt (part ws keptAt bufferAt)
+
+-- "demands become 65,535"
+unfoldable pub fullDemands : List ℕ → List ℕ
+fullDemands ws = put ws demandsAt (replicate channels demandMost)
 
 -- "probe codes become 255"
 unfoldable pub faulted : List ℕ → List ℕ
 faulted memory = put memory 0 (replicate channels faultCode)
 
--- "Restart: .. the rest stays"
+-- "the pending change is dropped"
+unfoldable pub dropped : List ℕ → List ℕ
+dropped p = set p kindAt noChange
+
+-- "the rest stays"
 unfoldable pub restarted : Card → Card
 restarted card =
     record { words = fullDemands (keptParameters (savedRegisters (card .words))); memory = faulted (card .memory); pending = dropped (card .pending) }
 
+-- "setting a code, restart .. give 1"
 unfoldable pub restart : Card → Reply
 restart card = guarded card (silent done (restarted card))

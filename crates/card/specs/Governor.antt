@@ -1,5 +1,5 @@
 -- The governor's reading: "degrees, or the word fault and no degrees (9), or the word refused (12, then 6 for a channel above 3)".
-use Prim.Native.Nat.{ℕ, _-_}
+use Prim.Native.Nat.{ℕ, _-_, _*_}
 use mathlib.Core.Bool.{true, false}
 use mathlib.Core.List.{List, [], _∷_}
 use lib.Dec.{ltb}
@@ -15,9 +15,13 @@ use Rattle.card.specs.declared.probe.Reading.the-variants.{Temperature, 
 use Rattle.card.specs.declared.governor.Governor.{Governor}
 use Rattle.card.specs.declared.governor.Governor.the-variants.{Degrees, Fault, Refused}
 
+-- "half the code less 40"
+abbrev pub degreesBelow : ℕ
+degreesBelow = 40
+
 -- the code that is 0 °C
 abbrev pub zeroCode : ℕ
-zeroCode = 80
+zeroCode = 2 * degreesBelow
 
 -- the float ± n / 2, written in the one way that an f32 (24 significant bits) is written; no float is computed with
 abbrev pub significantBits : ℕ

@@ -6,7 +6,7 @@ use mathlib.Core.List.{List}
 pub record Card : Type 0 where
   -- the numbers, a word each; a signed one in two's complement
   pub words : List ℕ
-  -- Datalink memory, whose first bytes are the probe codes, a channel each
+  -- Datalink memory; "1000h to 1003h show the probe codes themselves": its first bytes are the codes, a channel each
   pub memory : List ℕ
   -- the pending change
   pub pending : List ℕ
@@ -42,8 +42,11 @@ channels = 4
 abbrev pub parametersAt : ℕ
 parametersAt = demandsAt + channels
 
+abbrev pub parametersEach : ℕ
+parametersEach = 2
+
 abbrev pub parameterCount : ℕ
-parameterCount = 2 * channels
+parameterCount = parametersEach * channels
 
 abbrev pub keptAt : ℕ
 keptAt = parametersAt + parameterCount

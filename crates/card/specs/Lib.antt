@@ -6,3 +6,4 @@ pub mod Reply
 pub mod Probe
 pub mod Entries
 pub mod Governor
+pub mod Start

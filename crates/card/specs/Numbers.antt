@@ -1,4 +1,4 @@
--- Document 01, "Numbers returned".
+-- Document 01, "Numbers returned", in its words.
 use Prim.Native.Nat.{ℕ}
 
 -- done, answered
@@ -9,16 +9,19 @@ answered = 0
 abbrev pub done : ℕ
 done = 1
 
--- from here on a number is a refusal
+-- foreign address; from here on a number is a refusal
 abbrev pub foreignAddress : ℕ
 foreignAddress = 2
 
+-- frame form wrong
 abbrev pub frameForm : ℕ
 frameForm = 3
 
+-- check character wrong
 abbrev pub checkCharacter : ℕ
 checkCharacter = 4
 
+-- command unknown
 abbrev pub commandUnknown : ℕ
 commandUnknown = 5
 
@@ -30,12 +33,15 @@ rangeUnknown = 6
 abbrev pub valueOutside : ℕ
 valueOutside = 7
 
+-- read-only
 abbrev pub readOnly : ℕ
 readOnly = 8
 
+-- probe at fault
 abbrev pub probeFault : ℕ
 probeFault = 9
 
+-- nothing pending
 abbrev pub nothingPending : ℕ
 nothingPending = 10
 
@@ -43,6 +49,7 @@ nothingPending = 10
 abbrev pub bufferShort : ℕ
 bufferShort = 11
 
+-- card unfit: table length, address, entry or pending change outside the rules of document 01
 abbrev pub cardUnfit : ℕ
 cardUnfit = 12
 

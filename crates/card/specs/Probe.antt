@@ -1,4 +1,5 @@
--- The probe reading. "Code 0 to 254 means (5 × code − 400) tenths of °C. Code 255 means fault."
+-- The probe reading. "Four probe codes, one byte each. Code 0 to 254 means (5 × code − 400) tenths of °C, so −400 to 870. Code 255 means
+-- fault. No code gives −1."
 use Prim.Native.Nat.{ℕ, _+_, _*_, _%_}
 use lib.Dec.{eqb}
 use Rattle.wire.specs.Choose.{choose}

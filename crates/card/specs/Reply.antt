@@ -35,7 +35,15 @@ abbrev pub onWords : Card → WordsReply → Reply
 onWords card reply =
     record { number = reply .number; bytes = reply .bytes; card = record { words = reply .words; memory = card .memory; pending = card .pending } }
 
--- a dialect's answer buffer has at least this many bytes, else 11
+-- an answer of such a dialect: the number returned and the wire bytes; and the reply that leaves these words
+pub record Answer : Type 0 where
+  pub number : ℕ
+  pub bytes : List ℕ
+
+abbrev pub leaving : List ℕ → Answer → WordsReply
+leaving words answer = record { number = answer .number; bytes = answer .bytes; words = words }
+
+-- "11 (a dialect's answer buffer below 38 bytes, ..)"
 abbrev pub roomLeast : ℕ
 roomLeast = 38
 
@@ -51,7 +59,7 @@ early least card room = choose (fit card) (choose (leb least room) answered buff
 unfoldable pub guarded : Card → Reply → Reply
 guarded card reply = choose (fit card) reply (silent cardUnfit card)
 
--- "Numbers 2 to 14 change no table"
+-- "Numbers 2 to 14 change no table"; that "buffer bytes after an answer never change" is in `overlay`
 pub record Keeps (card : Card) (reply : Reply) : Type 0 where
   pub kept : foreignAddress ≤ reply .number → reply .card ≡ card
 
@@ -68,6 +76,11 @@ pub record Gave (reply : Reply) (out : List ℕ) (number len : ℕ) (words memor
 pub record Wrote (bytes out : List ℕ) (len : ℕ) (out′ : List ℕ) : Type 0 where
   pub measured : len ≡ length bytes
   pub written : out′ ≡ overlay bytes out
+
+-- an answer was told: the number, the answer's length and the whole answer buffer
+pub record Told (answer : Answer) (out : List ℕ) (number len : ℕ) (out′ : List ℕ) : Type 0 where
+  pub numbered : number ≡ answer .number
+  pub wrote : Wrote (answer .bytes) out len out′
 
 -- a function that changes words alone gave this reply: the number, the answer's length, the whole answer buffer and the words
 pub record GaveWords (reply : WordsReply) (out : List ℕ) (number len : ℕ) (words out′ : List ℕ) : Type 0 where

@@ -1,4 +1,5 @@
--- Document 01, "What the card holds": the range of every entry. A card whose tables keep to all of it is fit; any other is number 12.
+-- Document 01, "What the card holds", in its order: the range of every entry. A card whose tables keep to all of it is fit; any other is
+-- number 12. "Four probe codes, one byte each": every byte is one (Probe.antt).
 use Prim.Native.Nat.{ℕ, _+_, _*_, _%_, _/_}
 use mathlib.Core.Bool.{Bool, true, _&&_, _||_, not}
 use mathlib.Core.List.{List, [], _∷_}
@@ -6,6 +7,7 @@ use lib.Dec.{leb, ltb, eqb}
 use lib.ListN.{length, getD}
 use Rattle.wire.specs.Choose.{choose}
 use Rattle.wire.specs.Buffer.{part}
+use Rattle.wire.specs.Sum.{byteValues}
 use Rattle.wire.specs.Word.{minus}
 use Rattle.card.specs.Layout.{Card, iaAt, lecomAddressAt, loveAddressAt, loveAt, demandsAt, parametersAt, bufferAt, wordCount, memorySize, kindAt, numAt, lowAddressAt, highAddressAt, dataMost, pendingSize}
 
@@ -25,7 +27,7 @@ memoryStart = 0x1000
 abbrev pub memoryEnd : ℕ
 memoryEnd = memoryStart + memorySize
 
--- "1000h to 100Fh are read-only"
+-- "1000h to 1003h show the probe codes themselves, unsigned, 255 too" (Layout.antt). "1000h to 100Fh are read-only"
 abbrev pub writableStart : ℕ
 writableStart = 0x1010
 
@@ -51,7 +53,7 @@ changeBits = 2
 unfoldable pub named : ℕ → ℕ → ℕ
 named kind num = choose (eqb kind changeBits) (num / 2) num
 
--- NUM is 0 to 32, and even for Change Bits
+-- "NUM is 0 to 32; for Change Bits it is even and names NUM/2 bytes"
 unfoldable pub numRight : ℕ → ℕ → Bool
 numRight kind num = leb num dataMost && (not (eqb kind changeBits) || eqb (num % 2) 0)
 
@@ -61,7 +63,7 @@ echoable kind num at n = leb kind changeBits && (numRight kind num && (inMemory 
 
 -- the address of a pending change, or of a frame: low byte, then high byte
 unfoldable pub addressOf : ℕ → ℕ → ℕ
-addressOf low high = low + 256 * high
+addressOf low high = low + byteValues * high
 
 -- the pending change is none, or as it was echoed
 unfoldable pub fitPending : List ℕ → Bool
@@ -69,7 +71,48 @@ fitPending p =
     eqb (getD p kindAt 0) noChange
     || echoable (getD p kindAt 0) (getD p numAt 0) (addressOf (getD p lowAddressAt 0) (getD p highAddressAt 0)) (named (getD p kindAt 0) (getD p numAt 0))
 
--- "Datalink I.A. 0 to 31"
+-- "LECOM registers 00h to 5Fh in three copies (buffer, operational, saved), each −999,999 to 999,999"
+abbrev pub registerMost : ℕ
+registerMost = 999999
+
+-- "Love parameters SP1, SP2, ALLO, ALHI, each −400 to 870 tenths"
+abbrev pub loveDepth : ℕ
+loveDepth = 400
+
+abbrev pub loveLeast : ℕ
+loveLeast = minus loveDepth
+
+abbrev pub loveMost : ℕ
+loveMost = 870
+
+-- "LucidControl: four fan demands, 0 to 65,535"
+abbrev pub demandMost : ℕ
+demandMost = 65535
+
+-- "for each channel two parameters of four bytes with a saved copy: 1110h (1,000 to 60,000,000, default 1,000,000)"
+abbrev pub cycleLeast : ℕ
+cycleLeast = 1000
+
+abbrev pub cycleMost : ℕ
+cycleMost = 60000000
+
+abbrev pub cycleDefault : ℕ
+cycleDefault = 1000000
+
+-- "and 1120h (0 to 65,535, default 0)"
+abbrev pub floorMost : ℕ
+floorMost = 65535
+
+abbrev pub floorDefault : ℕ
+floorDefault = 0
+
+-- the pairs of both copies, channel by channel
+unfoldable pub fitParameters : List ℕ → Bool
+fitParameters [] = true
+fitParameters (cycle ∷ []) = true
+fitParameters (cycle ∷ floor ∷ rest) = inSpan cycleLeast cycleMost cycle && (inSpan 0 floorMost floor && fitParameters rest)
+
+-- "Addresses: Datalink I.A. 0 to 31"
 abbrev pub iaMost : ℕ
 iaMost = 31
 
@@ -80,50 +123,26 @@ lecomLeast = 11
 abbrev pub lecomMost : ℕ
 lecomMost = 99
 
+-- how many values a decimal figure has
+abbrev pub figureValues : ℕ
+figureValues = 10
+
 abbrev pub lecomRight : ℕ → Bool
-lecomRight lecom = leb lecomLeast lecom && (leb lecom lecomMost && not (eqb (lecom % 10) 0))
+lecomRight lecom = leb lecomLeast lecom && (leb lecom lecomMost && not (eqb (lecom % figureValues) 0))
 
 -- "Love 1 to 3FFh, low two hex figures not 00"
 abbrev pub loveAddressMost : ℕ
 loveAddressMost = 0x3FF
 
+-- a hundred in hex: how many values two hex figures have
+abbrev pub loveHundred : ℕ
+loveHundred = 0x100
+
 abbrev pub loveRight : ℕ → Bool
-loveRight love = leb love loveAddressMost && not (eqb (love % 256) 0)
+loveRight love = leb love loveAddressMost && not (eqb (love % loveHundred) 0)
 
 unfoldable pub fitAddresses : ℕ → ℕ → ℕ → Bool
 fitAddresses ia lecom love = leb ia iaMost && (lecomRight lecom && loveRight love)
-
--- "Love parameters SP1, SP2, ALLO, ALHI, each −400 to 870 tenths"
-abbrev pub loveLeast : ℕ
-loveLeast = minus 400
-
-abbrev pub loveMost : ℕ
-loveMost = 870
-
--- "four fan demands, 0 to 65,535"
-abbrev pub demandMost : ℕ
-demandMost = 65535
-
--- "1110h (1,000 to 60,000,000, ..)"
-abbrev pub cycleLeast : ℕ
-cycleLeast = 1000
-
-abbrev pub cycleMost : ℕ
-cycleMost = 60000000
-
--- "1120h (0 to 65,535, ..)"
-abbrev pub floorMost : ℕ
-floorMost = 65535
-
--- pairs of parameters 1110h and 1120h
-unfoldable pub fitParameters : List ℕ → Bool
-fitParameters [] = true
-fitParameters (cycle ∷ []) = true
-fitParameters (cycle ∷ floor ∷ rest) = inSpan cycleLeast cycleMost cycle && (inSpan 0 floorMost floor && fitParameters rest)
-
--- "LECOM registers .. each −999,999 to 999,999"
-abbrev pub registerMost : ℕ
-registerMost = 999999
 
 -- every word in its range
 unfoldable pub fitWords : List ℕ → Bool
@@ -134,7 +153,7 @@ fitWords ws =
     && (fitParameters (part ws parametersAt bufferAt)
     && allIn (minus registerMost) registerMost (part ws bufferAt wordCount))))
 
--- the card is fit: every table of its length, every entry in its range, the pending change as it was echoed. A probe code is any byte
+-- the card is fit: every table of its length, every entry in its range, the pending change as it was echoed
 unfoldable pub fit : Card → Bool
 fit card =
     eqb (length (card .words)) wordCount

@@ -15,11 +15,12 @@ use crate::layout::PARAMETERS;
 use crate::layout::PENDING;
 use crate::layout::REGISTERS;
 use crate::layout::WORDS;
+use wire::BYTE_VALUES;
 ghost use mathlib.Core.Path.{_≡_};
-ghost use Prim.Native.Nat.{_*_, _<_};
+ghost use Prim.Native.Nat.{_*_};
 ghost use lib.ListN.{length};
 ghost use Rattle.wire.specs.Word.{minus};
-ghost use Rattle.card.specs.Layout.{cardOf, registers, wordCount, pendingSize};
+ghost use Rattle.card.specs.Layout.{cardOf, parameterCount, registers, wordCount, pendingSize};
 ghost use Rattle.card.specs.Tables.{inSpan, allIn, inMemory, namesReadOnly, named, numRight, echoable, addressOf, fitPending, lecomRight, loveRight, fitAddresses, fitParameters, registerMost, fitWords, fit};
 
 // Datalink addresses: the first, the one after the last, and the first writable one.
@@ -29,6 +30,9 @@ pub const MEMORY_END: u32 = MEMORY_START + MEMORY as u32;
 
 pub const WRITABLE_START: u32 = 0x1010;
 
+// What the high byte of an address counts.
+const HIGH_WEIGHT: u16 = BYTE_VALUES as u16;
+
 // Kinds of a pending change.
 pub const NO_CHANGE: u8 = 0;
 
@@ -36,16 +40,23 @@ pub const CHANGE: u8 = 1;
 
 pub const CHANGE_BITS: u8 = 2;
 
-// Ranges. A lower end above the upper one is a negative number in two's complement.
+// Addresses. A LECOM address has two decimal figures, neither of them zero; the low two hex figures of a Love address are not 00.
 pub const IA_MOST: u32 = 31;
 
 pub const LECOM_LEAST: u32 = 11;
 
 pub const LECOM_MOST: u32 = 99;
 
+pub const FIGURE_VALUES: u32 = 10;
+
 pub const LOVE_ADDRESS_MOST: u32 = 0x3FF;
 
-pub const LOVE_LEAST: u32 = 0xFFFF_FFFF - 399;
+pub const LOVE_HUNDRED: u32 = 0x100;
+
+// Ranges. A lower end above the upper one is a negative number in two's complement.
+pub const LOVE_DEPTH: u32 = 400;
+
+pub const LOVE_LEAST: u32 = u32::MAX - LOVE_DEPTH + 1;
 
 pub const LOVE_MOST: u32 = 870;
 
@@ -55,11 +66,15 @@ pub const CYCLE_LEAST: u32 = 1_000;
 
 pub const CYCLE_MOST: u32 = 60_000_000;
 
+pub const CYCLE_DEFAULT: u32 = 1_000_000;
+
 pub const FLOOR_MOST: u32 = 65_535;
 
-pub const REGISTER_LEAST: u32 = 0xFFFF_FFFF - 999_998;
+pub const FLOOR_DEFAULT: u32 = 0;
 
 pub const REGISTER_MOST: u32 = 999_999;
+
+pub const REGISTER_LEAST: u32 = u32::MAX - REGISTER_MOST + 1;
 
 // Whether x lies from lo to hi.
 pub fn in_span(x: u32, lo: u32, hi: u32) -> bool
@@ -133,7 +148,7 @@ fn is_echoable(kind: u8, num: u8, at: u16, n: u8) -> bool
 pub fn address(low: u8, high: u8) -> u16
     ensures { λ r. ⌜ r ≡ addressOf low high ⌝ }
 {
-    low as u16 + 256 * (high as u16)
+    low as u16 + HIGH_WEIGHT * (high as u16)
 }
 
 // Whether the pending change is none, or as it was echoed.
@@ -154,14 +169,14 @@ fn fit_pending(pending: &[u8]) -> bool
 pub fn lecom_right(lecom: u32) -> bool
     ensures { λ r. ⌜ r ≡ lecomRight lecom ⌝ }
 {
-    (LECOM_LEAST <= lecom) & ((lecom <= LECOM_MOST) & (lecom % 10 != 0))
+    (LECOM_LEAST <= lecom) & ((lecom <= LECOM_MOST) & (lecom % FIGURE_VALUES != 0))
 }
 
 // Whether a Love address is in its range.
 pub fn love_right(love: u32) -> bool
     ensures { λ r. ⌜ r ≡ loveRight love ⌝ }
 {
-    (love <= LOVE_ADDRESS_MOST) & (love % 256 != 0)
+    (love <= LOVE_ADDRESS_MOST) & (love % LOVE_HUNDRED != 0)
 }
 
 // Whether the three addresses are in their ranges.
@@ -175,7 +190,7 @@ fn fit_addresses(ia: u32, lecom: u32, love: u32) -> bool
 
 // Whether pairs of parameters 1110h and 1120h are in their ranges.
 fn fit_parameters(s: &[u32]) -> bool
-    requires { ⌜ length (now s) < 1024 ⌝ }
+    requires { ⌜ length (now s) ≡ 2 * parameterCount ⌝ }
     ensures { λ r. ⌜ r ≡ fitParameters (now (s .entry)) ⌝ }
 {
     let mut ok = true;

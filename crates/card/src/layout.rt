@@ -17,7 +17,9 @@ pub const CHANNELS: usize = 4;
 // Parameters 1110h and 1120h, channel by channel, and then their saved copies in the same order.
 pub const PARAMETERS: usize = DEMANDS + CHANNELS;
 
-pub const PARAMETER_COUNT: usize = 2 * CHANNELS;
+pub const PARAMETERS_EACH: usize = 2;
+
+pub const PARAMETER_COUNT: usize = PARAMETERS_EACH * CHANNELS;
 
 pub const KEPT: usize = PARAMETERS + PARAMETER_COUNT;
 // The three copies of the LECOM registers stand last, so that their number can grow.

@@ -9,8 +9,17 @@ const TENTHS_PER_CODE: u32 = 5;
 
 const TENTHS_BELOW: u32 = 400;
 
-// Tenths of a degree, in two's complement.
-pub struct Tenths(pub u32);
+// Tenths of a degree, in two's complement. Only a probe reading makes one.
+pub struct Tenths(u32);
+
+impl Tenths {
+    // The number of tenths, as a word.
+    pub fn word(self) -> u32
+        ensures { λ r. ⌜ r ≡ self .0 ⌝ }
+    {
+        self.0
+    }
+}
 
 // What a probe's code says.
 pub enum Reading {

@@ -11,9 +11,7 @@ use lines::line;
 use tables::start;
 use terminal::exchange;
 use terminal::exchange::Exchange;
-ghost use mathlib.Core.Path.{_≡_};
 ghost use Prim.Native.Nat.{_<_};
-ghost use lib.ListN.{length};
 ghost use Rattle.terminal.specs.Held.{Held};
 ghost use Rattle.console.specs.Lent.{Lent};
 

@@ -57,7 +57,7 @@ order-other f kind num at n a k m t e =
 abbrev pub Sound : List ℕ → Order → Type 0
 Sound f (Refused number) = foreignAddress ≤ number
 Sound f (Interrogate at n) = (bareSize ≤ length f) × ((memoryStart ≤ at) × ((at + n ≤ memoryEnd) × (n ≤ dataMost)))
-Sound f (Change kind num) = (length f ≡ bareSize + num) × ((num ≤ dataMost) × ((kind ≡ noChange → ⊥) × (echoable kind num (addressIn f) (named kind num) ≡ true)))
+Sound f (Change kind num) = (length f ≡ bareSize + num) × ((num ≤ dataMost) × ((kind ≡ noChange → ⊥) × ((num ≡ numIn f) × (echoable kind num (addressIn f) (named kind num) ≡ true))))
 Sound f Acknowledge = Unit {0}
 
 pub memory-facts : (at n : ℕ) → inMemory at n ≡ true → (memoryStart ≤ at) × (at + n ≤ memoryEnd)
@@ -109,7 +109,7 @@ module _ (f : List ℕ) where
       (omega arith, (bounds .0, (omega arith, most))))
       (λ k.
       let writes : not (namesReadOnly (addressIn f) (named (kindIn f) (numIn f))) ≡ true = rw k at allowed in
-      (facts .0 ∙ ap (λ (x : ℕ). bareSize + x) (carried-some (kindIn f) (numIn f) k), (most, (eqb-false (kindIn f) noChange k, rw (kind-most (commandIn f), facts .1, inside, writes))))))
+      (facts .0 ∙ ap (λ (x : ℕ). bareSize + x) (carried-some (kindIn f) (numIn f) k), (most, (eqb-false (kindIn f) noChange k, (refl, rw (kind-most (commandIn f), facts .1, inside, writes)))))))
 
   pub asked-sound : (ia : ℕ) → Sound f (asked ia f)
   unfolding asked

@@ -2,3 +2,4 @@ pub mod Frames
 pub mod Responses
 pub mod Pendings
 pub mod Replies
+pub mod Staying

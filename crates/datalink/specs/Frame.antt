@@ -43,11 +43,14 @@ acknowledgeBits = 0x80
 abbrev pub responseBits : ℕ
 responseBits = 0x20
 
+abbrev pub secondPlace : ℕ
+secondPlace = 1
+
 unfoldable pub iaIn : List ℕ → ℕ
-iaIn f = getD f 1 0 % iaValues
+iaIn f = getD f secondPlace 0 % iaValues
 
 unfoldable pub commandIn : List ℕ → ℕ
-commandIn f = getD f 1 0 / iaValues * iaValues
+commandIn f = getD f secondPlace 0 / iaValues * iaValues
 
 -- the places of NUM and of the data, and NUM and address
 abbrev pub numPlace : ℕ
@@ -67,6 +70,10 @@ numIn f = getD f numPlace 0
 
 unfoldable pub addressIn : List ℕ → ℕ
 addressIn f = addressOf (getD f lowAddressPlace 0) (getD f highAddressPlace 0)
+
+-- the bytes of a frame beside its body of NUM, address and data: 7Eh, the second byte and the LRC
+abbrev pub besideBody : ℕ
+besideBody = 3
 
 -- a frame in that form: 7Eh, its second byte, a body of NUM, address and data, and the LRC
 unfoldable pub framed : ℕ → List ℕ → List ℕ
@@ -114,7 +121,7 @@ formRight f =
 
 -- "The LRC adds all bytes but the first, 7Eh, and itself; the sum is taken modulo 256." An Acknowledge has none
 unfoldable pub lrcRight : List ℕ → Bool
-lrcRight f = isAcknowledge f || eqb (sumOf (part f 1 (length f - 1))) (getD f (length f - 1) 0)
+lrcRight f = isAcknowledge f || eqb (sumOf (part f secondPlace (length f - 1))) (getD f (length f - 1) 0)
 
 -- "Address at least 1000h, address plus bytes named at most 2000h." An Acknowledge has no range
 unfoldable pub rangeRight : List ℕ → Bool

@@ -26,12 +26,12 @@ ghost use Rattle.card.specs.Layout.{cardOf, memorySize, pendingSize, dataMost};
 ghost use Rattle.card.specs.Tables.{iaMost, changeBits, memoryStart, memoryEnd};
 ghost use Rattle.card.specs.Fit.{Fit};
 ghost use Rattle.card.specs.Reply.{Gave, Did, Wrote, roomLeast};
-ghost use Rattle.datalink.specs.Frame.{framed, asked, numPlace, dataPlace, bareSize};
+ghost use Rattle.datalink.specs.Frame.{besideBody, asked, numPlace, dataPlace, bareSize};
 ghost use Rattle.datalink.specs.Answer.{response, newByte, changed, acknowledged, bodyOf, obeyed, iaOf};
 
 // Writes the response whose body is head and then bytes at the front of out.
 fn respond(out: &mut [u8], ia: u32, head: &[u8], bytes: &[u8]) -> usize
-    requires { ⌜ (ia ≤ iaMost) × ((length (now head) + length (now bytes) + 3 ≤ roomLeast) × (roomLeast ≤ length (now out))) ⌝ }
+    requires { ⌜ (ia ≤ iaMost) × ((length (now head) + length (now bytes) + besideBody ≤ roomLeast) × (roomLeast ≤ length (now out))) ⌝ }
     ensures { λ r. ⌜ Wrote (response ia (now (head .entry) ++ now (bytes .entry))) (now (out .entry)) r (now (out .exit)) ⌝ }
 {
     let second = Datalink::RESPONSE + ia as u8;

@@ -22,7 +22,9 @@ impl Datalink {
     pub const ACKNOWLEDGE: u8 = 0x80;
 
     pub const RESPONSE: u8 = 0x20;
-    // The places of NUM, address and data, and the size of a frame with NUM and no data.
+    // The places of the second byte, of NUM, address and data.
+    pub const SECOND: usize = 1;
+
     pub const NUM: usize = 2;
 
     pub const LOW_ADDRESS: usize = 3;
@@ -30,6 +32,9 @@ impl Datalink {
     pub const HIGH_ADDRESS: usize = 4;
 
     pub const DATA: usize = 5;
+
+    // The size of an Acknowledge, and of a frame with NUM and no data.
+    pub const ACKNOWLEDGE_SIZE: usize = 2;
 
     pub const BARE: usize = 6;
 

@@ -33,7 +33,7 @@ fn ia_in(f: &[u8]) -> u32
     requires { ⌜ shortest ≤ length (now f) ⌝ }
     ensures { λ r. ⌜ r ≡ iaIn (now (f .entry)) ⌝ }
 {
-    (f[1] % Datalink::IA_VALUES) as u32
+    (f[Datalink::SECOND] % Datalink::IA_VALUES) as u32
 }
 
 // The command bits of a frame.
@@ -41,7 +41,7 @@ fn command_in(f: &[u8]) -> u8
     requires { ⌜ shortest ≤ length (now f) ⌝ }
     ensures { λ r. ⌜ r ≡ commandIn (now (f .entry)) ⌝ }
 {
-    f[1] / Datalink::IA_VALUES * Datalink::IA_VALUES
+    f[Datalink::SECOND] / Datalink::IA_VALUES * Datalink::IA_VALUES
 }
 
 // Whether a command is one of the four.
@@ -85,7 +85,7 @@ fn form_right(f: &[u8]) -> bool
 {
     let command = command_in(f);
     if command == Datalink::ACKNOWLEDGE {
-        return f.len() == Datalink::SHORTEST;
+        return f.len() == Datalink::ACKNOWLEDGE_SIZE;
     }
     if f.len() < Datalink::BARE {
         return false;
@@ -104,7 +104,7 @@ fn lrc_right(f: &[u8]) -> bool
 {
     let command = command_in(f);
     let last = f.len() - 1;
-    let sum = wire::sum(&f[1..last]);
+    let sum = wire::sum(&f[Datalink::SECOND..last]);
     (command == Datalink::ACKNOWLEDGE) | (sum == f[last])
 }
 

@@ -4,20 +4,20 @@ ghost use mathlib.Core.List.{_++_};
 ghost use Prim.Native.Nat.{_+_, _≤_};
 ghost use lib.ListN.{length};
 ghost use Rattle.card.specs.Reply.{Wrote, roomLeast};
-ghost use Rattle.datalink.specs.Frame.{framed};
+ghost use Rattle.datalink.specs.Frame.{besideBody, framed};
 
 // Writes a frame at the front of out: 7Eh, its second byte, a body of head and then bytes, and the LRC.
 pub fn write_frame(out: &mut [u8], second: u8, head: &[u8], bytes: &[u8]) -> usize
-    requires { ⌜ (length (now head) + length (now bytes) + 3 ≤ roomLeast) × (roomLeast ≤ length (now out)) ⌝ }
+    requires { ⌜ (length (now head) + length (now bytes) + besideBody ≤ roomLeast) × (roomLeast ≤ length (now out)) ⌝ }
     ensures { λ r. ⌜ Wrote (framed second (now (head .entry) ++ now (bytes .entry))) (now (out .entry)) r (now (out .exit)) ⌝ }
 {
     out[0] = Datalink::START;
-    out[1] = second;
-    wire::copy(head, out, 2);
-    let at = 2 + head.len();
+    out[Datalink::SECOND] = second;
+    wire::copy(head, out, Datalink::NUM);
+    let at = Datalink::NUM + head.len();
     wire::copy(bytes, out, at);
     let end = at + bytes.len();
-    let lrc = wire::sum(&out[1..end]);
+    let lrc = wire::sum(&out[Datalink::SECOND..end]);
     out[end] = lrc;
     end + 1
 }

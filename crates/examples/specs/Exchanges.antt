@@ -1,8 +1,9 @@
 -- A checked example: calls on a card, each with the reply that document 01 prints for it.
 use Prim.Native.Nat.{ℕ}
-use mathlib.Core.Bool.{Bool, true, false, _&&_}
+use mathlib.Core.Bool.{Bool, true, _&&_}
 use mathlib.Core.List.{List, [], _∷_}
 use lib.Dec.{eqb}
+use Rattle.wire.specs.Buffer.{same}
 use Rattle.card.specs.Layout.{Card}
 use Rattle.card.specs.Reply.{Reply, roomLeast}
 use Rattle.card.specs.Entries.{setCode}
@@ -29,12 +30,6 @@ pub record Line : Type 0 where
   pub call : Call
   pub number : ℕ
   pub bytes : List ℕ
-
-abbrev pub same : List ℕ → List ℕ → Bool
-same [] [] = true
-same [] (y ∷ ys) = false
-same (x ∷ xs) [] = false
-same (x ∷ xs) (y ∷ ys) = eqb x y && same xs ys
 
 -- a reply is the one printed, and the lines after it hold on the card as it then stands
 abbrev pub heldBy : Line → Reply → Bool

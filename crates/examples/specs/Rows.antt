@@ -1,23 +1,8 @@
--- Document 01, "Checked examples": P1 to P12, in the paper's order.
-use Prim.Native.Nat.{ℕ, _+_, _-_}
-use mathlib.Core.List.{List, [], _∷_, _++_}
-use lib.ListN.{replicate}
-use Rattle.card.specs.Layout.{Card, cardOf, loveCount, channels, registers, memorySize, pendingSize}
-use Rattle.card.specs.Tables.{demandMost}
+-- Document 01, "Checked examples": P1 to P12, in the paper's order. Each starts from `startCard` of crates/card/specs/Start.antt.
+use Prim.Native.Nat.{ℕ}
+use mathlib.Core.List.{List, [], _∷_}
 use Rattle.card.specs.Numbers.{answered, done, checkCharacter, readOnly, probeFault}
 use Rattle.examples.specs.Exchanges.{Call, code, datalink, lecom, love, lucid, Line}
-
--- LucidControl parameters 1110h and 1120h of the four channels at their defaults
-abbrev pub defaults : List ℕ
-defaults = 1000000 ∷ 0 ∷ 1000000 ∷ 0 ∷ 1000000 ∷ 0 ∷ 1000000 ∷ 0 ∷ []
-
--- "Card: I.A. 3, LECOM 11, Love 32h": memory, registers and Love parameters zero, parameters at their defaults, demands full, no probe read yet
-abbrev pub exampleCard : Card
-exampleCard =
-    cardOf
-    (3 ∷ 11 ∷ 0x32 ∷ (replicate loveCount 0 ++ (replicate channels demandMost ++ (defaults ++ (defaults ++ replicate (registers + (registers + registers)) 0)))))
-    (replicate channels 255 ++ replicate (memorySize - channels) 0)
-    (replicate pendingSize 0)
 
 -- a line of an example
 abbrev pub line : Call → ℕ → List ℕ → Line

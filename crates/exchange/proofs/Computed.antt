@@ -1,18 +1,19 @@
 -- What the runs are computed with: every definition open, a test of the premise, and a card and requests to run. Assumes nothing.
 use mathlib.Core.Path.{_≡_}
 use mathlib.Core.Bool.{Bool, true, false, _&&_, _||_, not}
-use mathlib.Core.List.{List, [], _∷_, _++_}
+use mathlib.Core.List.{List, [], _∷_}
 use Prim.{Unit, tt}
-use Prim.Native.Nat.{ℕ}
+use Prim.Native.Nat.{ℕ, _-_}
 use native.Mathlib.Omega.{arith}
 use borrow.Author.Tests.{leb-true}
 use lib.Dec.{leb}
 use lib.ListN.{replicate}
 use Rattle.wire.specs.Choose.{choose}
-use Rattle.wire.specs.Buffer.{put, overlay}
+use Rattle.wire.specs.Buffer.{put, overlay, same}
 use Rattle.wire.specs.Sum.{total, sumOf}
-use Rattle.card.specs.Layout.{Card, cardOf}
-use Rattle.card.specs.Tables.{inSpan, allIn, inMemory, namesReadOnly, named, numRight, echoable, addressOf, fitPending, fitAddresses, fitParameters, fitWords, fit}
+use Rattle.card.specs.Layout.{Card, cardOf, memorySize, dataMost, pendingSize}
+use Rattle.card.specs.Tables.{change, inSpan, allIn, inMemory, namesReadOnly, named, numRight, echoable, addressOf, fitPending, fitAddresses, fitParameters, fitWords, fit}
+use Rattle.card.specs.Start.{startWords}
 use Rattle.card.specs.Reply.{shell, guarded}
 use Rattle.card.specs.Entries.{withCode, setCode, fullDemands, keptParameters, savedCopy, savedRegisters, dropped, faulted, restarted, restart}
 use Rattle.card.proofs.Facts.{and-true}
@@ -20,7 +21,7 @@ use Rattle.datalink.specs.Frame.{iaIn, commandIn, numIn, addressIn, framed, com
 use Rattle.datalink.specs.Answer.{response, iaOf, shown, interrogated, bodyOf, pended, echoed, newByte, changed, appliedTo, applied, acknowledged, obeyed, datalinkReply}
 use Rattle.master.specs.Request.{Request, askable, asAsked}
 use Rattle.master.specs.Request.Ask.{bytes}
-use Rattle.master.specs.Frames.{changeFrame, acknowledgeFrame, interrogateFrame, same, echo, isEcho, isResponse, allAsked, confirms}
+use Rattle.master.specs.Frames.{changeFrame, acknowledgeFrame, interrogateFrame, echo, isEcho, isResponse, allAsked, confirms}
 use Rattle.master.specs.Step.{move, stepOf}
 use Rattle.exchange.specs.Calls.{Call, replyOf}
 use Rattle.exchange.specs.Calls.Choice.{none, answer}
@@ -66,21 +67,14 @@ allowed b q w (c ∷ calls) e =
 
 -- a card of I.A. 3 whose memory is FFh throughout, with this pending change
 abbrev pub cardWith : List ℕ → Card
-cardWith pending =
-    cardOf
-    (3 ∷ 11 ∷ 0x32 ∷ (replicate 4 0 ++ (replicate 4 65535 ++ (parameters ++ (parameters ++ replicate 288 0)))))
-    (replicate 4096 255)
-    pending
-  where
-    parameters : List ℕ
-    parameters = 1000000 ∷ 0 ∷ 1000000 ∷ 0 ∷ 1000000 ∷ 0 ∷ 1000000 ∷ 0 ∷ []
+cardWith pending = cardOf startWords (replicate memorySize 0xFF) pending
 
 abbrev pub fresh : Card
-fresh = cardWith (replicate 36 0)
+fresh = cardWith (replicate pendingSize 0)
 
 -- another's Change of the byte 1020h to 7 is pending
 abbrev pub stale : Card
-stale = cardWith (1 ∷ 1 ∷ 0x20 ∷ 0x10 ∷ 7 ∷ replicate 31 0)
+stale = cardWith (change ∷ 1 ∷ 0x20 ∷ 0x10 ∷ 7 ∷ replicate (dataMost - 1) 0)
 
 -- 08h and 0Ch to 1010h and 1011h
 abbrev pub two : Request

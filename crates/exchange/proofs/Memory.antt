@@ -9,7 +9,7 @@ use native.Mathlib.Omega.{arith}
 use borrow.Author.Tests.{leb-true, ltb-true, ltb-false, eqb-true, eqb-false}
 use lib.Bits.{bitAnd, bitOr}
 use lib.Dec.{leb, ltb, eqb}
-use lib.ListN.{length, getD, drop, set, replicate, length-set, List·getD-append}
+use lib.ListN.{length, getD, drop, set, replicate, List·getD-append}
 use lib.Seq.{getD-drop, getD-append-add, getD-set-same, getD-set-other}
 use Rattle.wire.specs.Choose.{choose}
 use Rattle.wire.specs.Buffer.{put, overlay}
@@ -22,6 +22,7 @@ use Rattle.card.specs.Reply.{Reply, silent, sent, shell, guarded, roomLeast}
 use Rattle.card.specs.Entries.{dropped, faulted, restarted, restart, withCode, setCode}
 use Rattle.card.proofs.Facts.{and-true, fit-facts}
 use Rattle.datalink.specs.Answer.{newByte, changed, appliedTo, applied, pended}
+use Rattle.datalink.proofs.Staying.{length-changed}
 use Rattle.lecom.specs.Answer.{lecomReply}
 use Rattle.love.specs.Answer.{loveReply}
 use Rattle.lucid.specs.Answer.{lucidReply}
@@ -41,11 +42,6 @@ use Rattle.exchange.proofs.Orders.{kindFor, named-for}
 -- a change applied byte by byte
 
 module _ (kind a : ℕ) (data′ : List ℕ) where
-  changed-length : (k : ℕ) (m : List ℕ) → length (changed kind a data′ k m) ≡ length m
-  unfolding changed
-  changed-length zero m = refl
-  changed-length (suc k) m = rw length-set (changed-length k m)
-
   changed-other : (k : ℕ) (m : List ℕ) (j : ℕ) → ((i : ℕ) → i < k → j ≡ a + i → ⊥) → getD (changed kind a data′ k m) j 0 ≡ getD m j 0
   unfolding changed
   changed-other zero m j out = refl
@@ -60,7 +56,7 @@ module _ (kind a : ℕ) (data′ : List ℕ) where
           → getD (set (changed kind a data′ k m) (a + k) (newByte kind (getD (changed kind a data′ k m) (a + k) 0) data′ k)) (a + i) 0 ≡ newByte kind (getD m (a + i) 0) data′ i
       by true e r =
           let same : i ≡ k = eqb-true i k e in
-          rw same (getD-set-same (changed kind a data′ k m) (a + k) _ 0 (rw (changed-length k m) (omega arith)) ∙ ap (λ (x : ℕ). newByte kind x data′ k) (changed-other k m (a + k) (λ j g u. omega arith)))
+          rw same (getD-set-same (changed kind a data′ k m) (a + k) _ 0 (rw (length-changed kind a data′ k m) (omega arith)) ∙ ap (λ (x : ℕ). newByte kind x data′ k) (changed-other k m (a + k) (λ j g u. omega arith)))
       by false e r =
           let apart : i ≡ k → ⊥ = eqb-false i k e in
           getD-set-other (changed kind a data′ k m) (a + k) (a + i) _ 0 (λ u. apart (omega arith)) ∙ r (omega arith) (omega arith)

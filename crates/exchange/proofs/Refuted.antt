@@ -5,9 +5,9 @@ use mathlib.Core.List.{List, [], _∷_}
 use Prim.{tt}
 use Prim.Native.Nat.{ℕ}
 use native.Mathlib.Omega.{arith}
-use lib.Dec.{leb, lit≤, lit<}
+use lib.Dec.{leb, eqb, lit≤, lit<}
 use Rattle.wire.specs.Choose.{choose}
-use Rattle.card.specs.Numbers.{bufferShort, valueOutside, nothingPending, done}
+use Rattle.card.specs.Numbers.{answered, bufferShort, valueOutside, nothingPending, done}
 use Rattle.card.specs.Layout.{Card, cardOf}
 use Rattle.card.specs.Entries.{restart, withCode}
 use Rattle.card.specs.Reply.{Reply, silent}
@@ -176,7 +176,7 @@ unfoldable eagerly : Order → Reply → Reply
 eagerly (Refused number) r = r
 eagerly (Interrogate at n) r = r
 eagerly (Change kind num) r =
-    record { number = r .number; bytes = r .bytes; card = cardOf (r .card .words) (appliedTo (r .card .memory) (r .card .pending)) (r .card .pending) }
+    choose (eqb (r .number) answered) (record { number = r .number; bytes = r .bytes; card = cardOf (r .card .words) (appliedTo (r .card .memory) (r .card .pending)) (r .card .pending) }) r
 eagerly Acknowledge r = r
 
 unfoldable eager : Card → ℕ → List ℕ → Reply

@@ -17,13 +17,14 @@ use Rattle.card.proofs.Facts.{and-true}
 use Rattle.datalink.specs.Frame.{framed, longest}
 use Rattle.datalink.specs.Answer.{response}
 use Rattle.master.specs.Request.{Request, namedBy, asAsked, askable}
-use Rattle.master.specs.Frames.{body, acknowledgeFrame, same, echo, isEcho, shownIn, isResponse, allAsked, confirms}
+use Rattle.master.specs.Frames.{body, acknowledgeFrame, echo, isEcho, shownIn, isResponse, allAsked, confirms}
 use Rattle.master.specs.Step.{Move, sends, ends, refuses, move, stepOf}
 use Rattle.master.specs.declared.Phase.{Phase}
 use Rattle.master.specs.declared.Phase.the-variants.{New, Changing, Acknowledging, Reading, EndedDone, EndedUnknown}
 use Rattle.master.specs.declared.Verdict.the-variants.{Done, Unknown}
 use Rattle.master.proofs.Frames.{same-self, asked-all, all-asked, shown-response}
 use Rattle.master.proofs.Forced.{asked-again}
+use Rattle.wire.specs.Buffer.{same}
 use Rattle.exchange.specs.Calls.{Choice}
 use Rattle.exchange.specs.Calls.Choice.{none, answer}
 use Rattle.exchange.specs.Line.{Line, nth, heard, isAnswer, lossless, closing, afterStep, changeRound, acknowledgeRound, interrogateRound}

@@ -19,10 +19,10 @@ use Rattle.card.proofs.Probes.{fault-read}
 use Rattle.card.specs.Entries.{withCode}
 use Rattle.card.specs.Governor.{governorOf, toldBy, toldOf, valuesOf}
 use Rattle.card.specs.Numbers.{bufferShort, cardUnfit}
-use Rattle.card.specs.Reply.{WordsReply, onWords, silent, shell, roomLeast}
+use Rattle.card.specs.Reply.{WordsReply, onWords, silent, shell, roomLeast, leaving}
 use Rattle.card.specs.declared.governor.Governor.{Governor}
 use Rattle.lecom.specs.Frame.{firstProbe, asked as lecomAsked}
-use Rattle.lecom.specs.Answer.{leaving, readAnswer, obeyed as lecomObeyed, addressOf as lecomAddress, lecomReply}
+use Rattle.lecom.specs.Answer.{readAnswer, obeyed as lecomObeyed, addressOf as lecomAddress, lecomReply}
 use Rattle.lecom.specs.declared.frame.Order.{Order as LecomOrder}
 use Rattle.lecom.specs.declared.frame.Order.the-variants.{Unheard, Refused as LecomRefused, Read as LecomRead, Write as LecomWrite}
 use Rattle.lecom.proofs.Laws.{fault as lecom-fault}

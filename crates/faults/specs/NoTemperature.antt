@@ -9,8 +9,8 @@ use Rattle.card.specs.Numbers.{answered, probeFault}
 use Rattle.card.specs.Layout.{Card}
 use Rattle.card.specs.Entries.{withCode}
 use Rattle.card.specs.Governor.{governorOf, valuesOf}
-use Rattle.card.specs.Reply.{Reply, onWords, sent, shell, roomLeast}
-use Rattle.lecom.specs.Answer.{refusedBy, leaving, lecomReply}
+use Rattle.card.specs.Reply.{Reply, onWords, sent, shell, roomLeast, leaving}
+use Rattle.lecom.specs.Answer.{refusedBy, lecomReply}
 use Rattle.love.specs.Answer.{faultReply, addressOf, loveReply}
 use Rattle.lucid.specs.Answer.{faulted, lucidReply}
 

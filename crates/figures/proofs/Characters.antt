@@ -1,5 +1,5 @@
 -- Laws of specs/Figure.antt: figures and their characters, pairs of characters. Assumes nothing.
-use Prim.Native.Nat.{ℕ, suc, _+_, _-_, _*_, _/_, _%_, _≤_, _<_}
+use Prim.Native.Nat.{ℕ, suc, _+_, _-_, _*_, _%_, _≤_, _<_}
 use mathlib.Core.Path.{_≡_, refl, sym, ap, _∙_}
 use mathlib.Core.Bool.{Bool, true, false, _&&_, not, and-assoc, and-false}
 use mathlib.Core.List.{List, [], _∷_, _++_, append-assoc}
@@ -13,7 +13,7 @@ use borrow.Author.Tests.{leb-true, le-leb, lt-leb, lt-ltb, le-ltb, ne-eqb}
 use Rattle.wire.specs.Choose.{choose}
 use Rattle.wire.specs.Buffer.{put}
 use Rattle.wire.proofs.Cases.{cases, by-choice}
-use Rattle.figures.specs.Figure.{base, upperHex, none, noByte, inRange, figureOf, charOf, allFigures, pairByte, pairOf}
+use Rattle.figures.specs.Figure.{base, none, noByte, inRange, figureOf, charOf, allFigures, pairByte}
 
 -- two tests that hold together hold each
 pub both : (a b : Bool) → (a && b) ≡ true → (a ≡ true) × (b ≡ true)
@@ -97,17 +97,6 @@ pair-figures limit high low = by (decLt (figureOf high) limit) (decLt (figureOf 
         simp (lt-ltb (figureOf high) limit h, lt-ltb (figureOf low) limit l, lt-leb limit (figureOf high) h, lt-leb limit (figureOf low) l, ne-eqb (base * (figureOf high % base) + figureOf low % base) noByte (omega arith))
     by (yes h) (no l) = simp (lt-ltb (figureOf high) limit h, le-ltb (figureOf low) limit (omega arith), lt-leb limit (figureOf high) h, le-leb limit (figureOf low) (omega arith))
     by (no h) _ = simp (le-ltb (figureOf high) limit (omega arith), le-leb limit (figureOf high) (omega arith))
-
--- a pair is two characters
-pub pair-length : (v : ℕ) → length (pairOf v) ≡ 2
-unfolding pairOf
-pair-length v = refl
-
--- a byte's pair is read as the byte, by the upper-case limit and by any above it
-pub pair-round-trip : (limit v : ℕ) → upperHex ≤ limit → v < noByte → pairByte limit (getD (pairOf v) 0 0) (getD (pairOf v) 1 0) ≡ v
-unfolding pairByte pairOf choose
-pair-round-trip limit v l h =
-    simp (figure-char (v / 16) (omega arith), figure-char (v % 16) (omega arith), lt-leb limit (v / 16) (omega arith), lt-leb limit (v % 16) (omega arith)) (omega arith)
 
 -- two stores are a list of two, put there
 pub put-two : (d : List ℕ) (at x y : ℕ) → at + 2 ≤ length d → set (set d at x) (at + 1) y ≡ put d at (x ∷ y ∷ [])

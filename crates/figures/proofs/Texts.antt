@@ -51,12 +51,6 @@ magnitude-at-most w = by (decLe half w)
     by (yes h) = omega (arith, magnitude-negative w h)
     by (no h) = omega (arith, magnitude-positive w (omega arith))
 
--- minus zero is zero
-pub sign-zero : (s : Bool) → withSign s 0 ≡ 0
-unfolding withSign choose
-sign-zero true = refl
-sign-zero false = refl
-
 -- sign and magnitude of a word give the word
 pub sign-magnitude : (w : ℕ) → w < wordValues → withSign (isNegative w) (magnitude w) ≡ w
 unfolding withSign choose

@@ -3,17 +3,17 @@ use Prim.Native.Nat.{ℕ, zero, suc, _+_, _*_, _/_, _%_}
 use mathlib.Core.List.{List, [], _∷_, _++_}
 use lib.Dec.{ltb}
 use Rattle.wire.specs.Choose.{choose}
-use Rattle.figures.specs.Figure.{figureOf, charOf}
+use Rattle.figures.specs.Figure.{decimal, figureOf, charOf}
 
 -- the last k decimal figures of n, leading zeros too
 unfoldable pub digits : ℕ → ℕ → List ℕ
 digits zero n = []
-digits (suc k) n = digits k (n / 10) ++ (charOf (n % 10) ∷ [])
+digits (suc k) n = digits k (n / decimal) ++ (charOf (n % decimal) ∷ [])
 
 -- how many figures n has without leading zeros, as long as it takes no more than `turns` divisions by ten
 unfoldable pub sizeWithin : ℕ → ℕ → ℕ
 sizeWithin zero n = 1
-sizeWithin (suc turns) n = choose (ltb n 10) 1 (suc (sizeWithin turns (n / 10)))
+sizeWithin (suc turns) n = choose (ltb n decimal) 1 (suc (sizeWithin turns (n / decimal)))
 
 -- how many figures the shortest decimal of n has: zero has one
 unfoldable pub sizeOf : ℕ → ℕ
@@ -26,7 +26,7 @@ shortest n = digits (sizeOf n) n
 -- the value of the figures that are left, after those of the value v
 unfoldable pub valueFrom : ℕ → List ℕ → ℕ
 valueFrom v [] = v
-valueFrom v (x ∷ xs) = valueFrom (v * 10 + figureOf x) xs
+valueFrom v (x ∷ xs) = valueFrom (v * decimal + figureOf x) xs
 
 -- the value of a run of decimal figures
 unfoldable pub valueOf : List ℕ → ℕ

@@ -58,13 +58,13 @@ inRange lo hi b = leb lo b && leb b hi
 unfoldable pub figureOf : ℕ → ℕ
 figureOf b =
     choose (inRange zeroChar nineChar b) (b - zeroChar)
-    (choose (inRange upperA upperF b) (10 + (b - upperA))
-    (choose (inRange lowerA lowerF b) (lower + (10 + (b - lowerA)))
+    (choose (inRange upperA upperF b) (decimal + (b - upperA))
+    (choose (inRange lowerA lowerF b) (lower + (decimal + (b - lowerA)))
     none))
 
 -- the upper-case character of a figure's value
 unfoldable pub charOf : ℕ → ℕ
-charOf v = choose (ltb v 10) (zeroChar + v) (upperA + (v - 10))
+charOf v = choose (ltb v decimal) (zeroChar + v) (upperA + (v - decimal))
 
 -- whether every character of a list is a figure below limit
 unfoldable pub allFigures : ℕ → List ℕ → Bool

@@ -3,7 +3,7 @@ ghost use mathlib.Core.Path.{_≡_};
 ghost use Prim.Native.Nat.{_+_, _<_, _≤_};
 ghost use lib.ListN.{length};
 ghost use Rattle.wire.specs.Buffer.{put};
-ghost use Rattle.figures.specs.Figure.{inRange, figureOf, charOf, allFigures, pairByte, pairOf};
+ghost use Rattle.figures.specs.Figure.{base, inRange, figureOf, charOf, allFigures, pairByte, pairOf};
 ghost use Rattle.figures.specs.Decimal.{digits, sizeOf, valueOf, longestValue};
 ghost use Rattle.figures.specs.Signed.{isNegative, magnitude, withSign, longestText, textOf, figuresOf, parsedOf};
 
@@ -13,6 +13,15 @@ pub const DECIMAL: u8 = 10;
 pub const UPPER_HEX: u8 = 16;
 
 pub const HEX: u8 = 32;
+
+// The bases of decimal and of hex figures, each in the widths that are counted in.
+const BASE: u32 = DECIMAL as u32;
+
+const VALUE_BASE: u64 = DECIMAL as u64;
+
+const HEX_BASE: u8 = 16;
+
+const PAIR_BASE: u32 = HEX_BASE as u32;
 
 // What lower case adds to a figure.
 const LOWER: u8 = 16;
@@ -27,7 +36,7 @@ pub const NO_BYTE: u32 = 256;
 const MINUS: u8 = b'-';
 
 // The words from here on are the negative numbers.
-const HALF: u32 = 2147483648;
+const HALF: u32 = u32::MAX / 2 + 1;
 
 fn in_range(lo: u8, hi: u8, b: u8) -> bool
     ensures { λ r. ⌜ r ≡ inRange lo hi b ⌝ }
@@ -43,23 +52,23 @@ pub fn figure(b: u8) -> u8
         return b - b'0';
     }
     if in_range(b'A', b'F', b) {
-        return 10 + (b - b'A');
+        return DECIMAL + (b - b'A');
     }
     if in_range(b'a', b'f', b) {
-        return LOWER + (10 + (b - b'a'));
+        return LOWER + (DECIMAL + (b - b'a'));
     }
     NONE
 }
 
 // The upper-case character of a figure's value.
 pub fn figure_char(v: u8) -> u8
-    requires { ⌜ v < 16 ⌝ }
+    requires { ⌜ v < base ⌝ }
     ensures { λ r. ⌜ r ≡ charOf v ⌝ }
 {
-    if v < 10 {
+    if v < DECIMAL {
         return b'0' + v;
     }
-    b'A' + (v - 10)
+    b'A' + (v - DECIMAL)
 }
 
 // Whether every character of s is a figure below limit.
@@ -88,7 +97,7 @@ pub fn pair_byte(high: u8, low: u8, limit: u8) -> u32
     if limit <= l {
         return NO_BYTE;
     }
-    16 * ((h % 16) as u32) + ((l % 16) as u32)
+    PAIR_BASE * ((h % HEX_BASE) as u32) + ((l % HEX_BASE) as u32)
 }
 
 // Writes the two upper-case characters of v.
@@ -96,8 +105,8 @@ pub fn put_pair(out: &mut [u8], at: usize, v: u8)
     requires { ⌜ at + 2 ≤ length (now out) ⌝ }
     ensures { λ _. ⌜ now (out .exit) ≡ put (now (out .entry)) at (pairOf v) ⌝ }
 {
-    out[at] = figure_char(v / 16);
-    out[at + 1] = figure_char(v % 16);
+    out[at] = figure_char(v / HEX_BASE);
+    out[at + 1] = figure_char(v % HEX_BASE);
 }
 
 // Writes the last k decimal figures of n, leading zeros too.
@@ -109,8 +118,8 @@ pub fn put_digits(out: &mut [u8], at: usize, k: usize, n: u32)
     let mut j = k;
     while 0 < j {
         j -= 1;
-        out[at + j] = figure_char((v % 10) as u8);
-        v /= 10;
+        out[at + j] = figure_char((v % BASE) as u8);
+        v /= BASE;
     }
 }
 
@@ -120,8 +129,8 @@ pub fn size(n: u32) -> usize
 {
     let mut v = n;
     let mut k: usize = 1;
-    while 10 <= v {
-        v /= 10;
+    while BASE <= v {
+        v /= BASE;
         k += 1;
     }
     k
@@ -135,7 +144,7 @@ pub fn value(s: &[u8]) -> u64
     let mut v: u64 = 0;
     let mut i = 0;
     while i < s.len() {
-        v = v * 10 + figure(s[i]) as u64;
+        v = v * VALUE_BASE + figure(s[i]) as u64;
         i += 1;
     }
     v

@@ -5,6 +5,7 @@ use mathlib.Core.List.{List, [], _∷_, _++_}
 use lib.Dec.{eqb}
 use Rattle.bits.specs.Fields.{widthOf}
 use Rattle.card.specs.Layout.{iaAt, lecomAddressAt, loveAddressAt, savedAt, registers, keptAt, parameterCount, loveAt, loveCount}
+use Rattle.card.specs.Tables.{loveDepth, registerMost}
 use Rattle.image.specs.declared.form.Entry.{Entry}
 
 -- an entry: the word that it holds, the bits of its field, and what is added to the word there
@@ -31,7 +32,7 @@ abbrev pub registerWidth : ℕ
 registerWidth = 21
 
 abbrev pub registerBias : ℕ
-registerBias = 999999
+registerBias = registerMost
 
 -- "saved parameters 32 bits each, channel by channel, 1110h first"
 abbrev pub parameterWidth : ℕ
@@ -42,7 +43,7 @@ abbrev pub loveWidth : ℕ
 loveWidth = 11
 
 abbrev pub loveBias : ℕ
-loveBias = 400
+loveBias = loveDepth
 
 -- the image's entries in the paper's order
 unfoldable pub savedForm : List Entry

@@ -1,4 +1,6 @@
 // The image's table. Document 01, "The saved image".
+use card::fitness::LOVE_DEPTH;
+use card::fitness::REGISTER_MOST;
 use card::layout::IA;
 use card::layout::KEPT;
 use card::layout::LECOM_ADDRESS;
@@ -30,13 +32,13 @@ const LOVE_ADDRESS_WIDTH: usize = 10;
 
 const REGISTER_WIDTH: usize = 21;
 
-const REGISTER_BIAS: u32 = 999_999;
+const REGISTER_BIAS: u32 = REGISTER_MOST;
 
 const PARAMETER_WIDTH: usize = 32;
 
 const LOVE_WIDTH: usize = 11;
 
-const LOVE_BIAS: u32 = 400;
+const LOVE_BIAS: u32 = LOVE_DEPTH;
 
 // Where each kind of entry begins, after the three addresses.
 const FIRST_REGISTER: usize = 3;

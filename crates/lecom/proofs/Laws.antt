@@ -13,10 +13,10 @@ use Rattle.wire.proofs.Cases.{by-choice}
 use Rattle.card.specs.Numbers.{probeFault}
 use Rattle.card.specs.Layout.{Card, channels}
 use Rattle.card.specs.Probe.{faultCode, readingOf}
-use Rattle.card.specs.Reply.{Keeps, onWords, shell, roomLeast}
+use Rattle.card.specs.Reply.{Keeps, onWords, shell, roomLeast, Answer, leaving}
 use Rattle.card.proofs.Replies.{shell-keeps}
 use Rattle.lecom.specs.Frame.{ack, firstProbe, probesEnd, collective, asked}
-use Rattle.lecom.specs.Answer.{Answer, leaving, doneBy, refusedBy, probeAnswer, readAnswer, obeyed, addressOf, lecomReply}
+use Rattle.lecom.specs.Answer.{doneBy, refusedBy, probeAnswer, readAnswer, obeyed, addressOf, lecomReply}
 use Rattle.lecom.specs.declared.frame.Order.{Order}
 use Rattle.lecom.specs.declared.frame.Order.the-variants.{Unheard, Refused, Read, Write}
 

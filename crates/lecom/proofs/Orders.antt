@@ -9,9 +9,10 @@ use lib.ListN.{length}
 use Rattle.wire.specs.Choose.{choose}
 use Rattle.wire.proofs.Cases.{by-choice}
 use Rattle.card.specs.Numbers.{frameForm, checkCharacter, rangeUnknown, valueOutside, readOnly}
-use Rattle.card.specs.Reply.{GaveWords}
-use Rattle.lecom.specs.Frame.{shortest, lengthRight, isWrite, codeEnd, sizeRight, orderIn, heard, asked}
-use Rattle.lecom.specs.Answer.{Answer, quietly, leaving, obeyed, Sent}
+use Rattle.card.specs.Reply.{GaveWords, Answer, leaving, Told}
+use Rattle.lecom.specs.Frame.{shortest, lengthRight, isWrite, codeEnd, sizeRight, orderIn, asked}
+use Rattle.lecom.specs.Stages.{heard}
+use Rattle.lecom.specs.Answer.{quietly, obeyed}
 use Rattle.lecom.specs.declared.frame.Order.{Order}
 use Rattle.lecom.specs.declared.frame.Order.the-variants.{Unheard, Refused, Read, Write}
 use Rattle.lecom.proofs.Places.{size-holds, length-facts}
@@ -43,7 +44,7 @@ module _ (f : List ℕ) (P : Order → Type 0) (unheard : (number : ℕ) → P (
       (λ _. passed l k)))))))
 
   pub by-order : (address : ℕ) → P (asked address f)
-  unfolding asked
+  unfolding asked heard
   by-order address =
       or-unheard (lengthRight (length f)) _ _
       (λ l. or-unheard _ _ _ (λ _. or-unheard _ _ _ (λ _. or-unheard _ _ _ (λ _. by-heard (length-facts (length f) l .0)))))
@@ -65,7 +66,7 @@ pub known : (address : ℕ) (f : List ℕ) (o : Order) → o ≡ asked address f
 known address f o e = subst (Held f) (sym e) (held f address)
 
 -- an answer that was sent, and these words left
-pub gave-leaving : (words : List ℕ) (answer : Answer) (out : List ℕ) {number len : ℕ} {out′ : List ℕ} → Sent answer out number len out′ → GaveWords (leaving words answer) out number len words out′
+pub gave-leaving : (words : List ℕ) (answer : Answer) (out : List ℕ) {number len : ℕ} {out′ : List ℕ} → Told answer out number len out′ → GaveWords (leaving words answer) out number len words out′
 gave-leaving words answer out s = record { numbered = s .numbered; measured = s .wrote .measured; written = s .wrote .written; worded = refl }
 
 -- a reply to an order, known under another name

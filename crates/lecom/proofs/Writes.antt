@@ -11,9 +11,9 @@ use Rattle.wire.proofs.Buffers.{overlay-none, overlay-sets, overlay-set, overla
 use Rattle.figures.specs.Signed.{textOf, longestText}
 use Rattle.figures.proofs.Texts.{text-length}
 use Rattle.card.specs.Numbers.{answered, done}
-use Rattle.card.specs.Reply.{Wrote}
+use Rattle.card.specs.Reply.{Wrote, Answer, Told}
 use Rattle.lecom.specs.Frame.{stx, etx, collective, codeStart, codeEnd, codeOf, bccOf}
-use Rattle.lecom.specs.Answer.{Answer, valueBody, valueBytes, refusalBytes, doneBy, refusedBy, Sent}
+use Rattle.lecom.specs.Answer.{valueBody, valueBytes, refusalBytes, doneBy, refusedBy}
 use Rattle.lecom.proofs.Places.{placed}
 
 module _ (bytes out : List ℕ) {len : ℕ} {out′ : List ℕ} (w : Wrote bytes out len out′) where
@@ -79,24 +79,24 @@ wrote-value f out value at k bcc out₁ out₂ w n p e h =
 pub wrote-none : (out : List ℕ) → Wrote [] out 0 out
 wrote-none out = record { measured = refl; written = sym (overlay-none out) }
 
-pub sent-as : {out : List ℕ} {number len : ℕ} {out′ : List ℕ} (a b : Answer) → a ≡ b → Sent a out number len out′ → Sent b out number len out′
-sent-as {out} {number} {len} {out′} a b e = subst (λ (x : Answer). Sent x out number len out′) e
+pub sent-as : {out : List ℕ} {number len : ℕ} {out′ : List ℕ} (a b : Answer) → a ≡ b → Told a out number len out′ → Told b out number len out′
+sent-as {out} {number} {len} {out′} a b e = subst (λ (x : Answer). Told x out number len out′) e
 
 -- a frame to a collective address: no byte
-pub done-quiet : (f bytes out : List ℕ) → collective f ≡ true → Sent (doneBy f bytes) out done 0 out
+pub done-quiet : (f bytes out : List ℕ) → collective f ≡ true → Told (doneBy f bytes) out done 0 out
 unfolding doneBy
 done-quiet f bytes out h = sent-as _ _ (yes _ _ _ _ h refl) (record { numbered = refl; wrote = wrote-none out })
 
-pub refused-quiet : (f : List ℕ) (number : ℕ) (out : List ℕ) → collective f ≡ true → Sent (refusedBy f number) out number 0 out
+pub refused-quiet : (f : List ℕ) (number : ℕ) (out : List ℕ) → collective f ≡ true → Told (refusedBy f number) out number 0 out
 unfolding refusedBy
 refused-quiet f number out h = sent-as _ _ (yes _ _ _ _ h refl) (record { numbered = refl; wrote = wrote-none out })
 
 -- a frame to the unit's own: the bytes
-pub done-sent : (f bytes out : List ℕ) {len : ℕ} {out′ : List ℕ} → collective f ≡ false → Wrote bytes out len out′ → Sent (doneBy f bytes) out answered len out′
+pub done-sent : (f bytes out : List ℕ) {len : ℕ} {out′ : List ℕ} → collective f ≡ false → Wrote bytes out len out′ → Told (doneBy f bytes) out answered len out′
 unfolding doneBy
 done-sent f bytes out h w = sent-as _ _ (no _ _ _ _ h refl) (record { numbered = refl; wrote = w })
 
 pub refused-sent : (f : List ℕ) (number : ℕ) (out : List ℕ) {len : ℕ} {out′ : List ℕ} → collective f ≡ false → Wrote (refusalBytes f number) out len out′
-    → Sent (refusedBy f number) out number len out′
+    → Told (refusedBy f number) out number len out′
 unfolding refusedBy
 refused-sent f number out h w = sent-as _ _ (no _ _ _ _ h refl) (record { numbered = refl; wrote = w })

@@ -1,6 +1,5 @@
 -- What the card does with a LECOM order, and what it sends. Document 01, "LECOM".
 use Prim.Native.Nat.{ℕ, _+_, _-_}
-use mathlib.Core.Path.{_≡_}
 use mathlib.Core.Bool.{_&&_, not}
 use mathlib.Core.List.{List, [], _∷_, _++_}
 use lib.Dec.{ltb, eqb}
@@ -13,7 +12,7 @@ use Rattle.card.specs.Layout.{Card, lecomAddressAt, bufferAt, operationalAt, sa
 use Rattle.card.specs.Probe.{readingOf}
 use Rattle.card.specs.declared.probe.Reading.{Reading}
 use Rattle.card.specs.declared.probe.Reading.the-variants.{Temperature, Fault}
-use Rattle.card.specs.Reply.{Reply, WordsReply, Wrote, onWords, shell, roomLeast}
+use Rattle.card.specs.Reply.{Reply, WordsReply, Answer, onWords, leaving, shell, roomLeast}
 use Rattle.lecom.specs.Frame.{stx, etx, eot, ack, nak, firstProbe, probesEnd, activate, collective, isWrite, codeOf, bccOf, asked}
 use Rattle.lecom.specs.declared.frame.Order.{Order}
 use Rattle.lecom.specs.declared.frame.Order.the-variants.{Unheard, Refused, Read, Write}
@@ -33,11 +32,6 @@ unknownBytes f = (stx ∷ codeOf f) ++ (eot ∷ [])
 -- "From layout on the wire answer is NAK, except an unknown code in a read"
 unfoldable pub refusalBytes : List ℕ → ℕ → List ℕ
 refusalBytes f number = choose (eqb number rangeUnknown && not (isWrite f)) (unknownBytes f) (nak ∷ [])
-
--- an answer: the number returned and the wire bytes
-pub record Answer : Type 0 where
-  pub number : ℕ
-  pub bytes : List ℕ
 
 -- a number with no wire bytes
 abbrev pub quietly : ℕ → Answer
@@ -78,10 +72,6 @@ written words code value =
     (choose (eqb code activate) (activated words)
     (stored words)))
 
--- a reply that leaves these words
-abbrev pub leaving : List ℕ → Answer → WordsReply
-leaving words answer = record { number = answer .number; bytes = answer .bytes; words = words }
-
 -- what the card does with each order
 unfoldable pub obeyed : List ℕ → List ℕ → List ℕ → Order → WordsReply
 obeyed words memory f (Unheard number) = leaving words (quietly number)
@@ -97,8 +87,3 @@ addressOf words = getD words lecomAddressAt 0
 unfoldable pub lecomReply : Card → ℕ → List ℕ → Reply
 lecomReply card room f =
     shell roomLeast card room (onWords card (obeyed (card .words) (card .memory) f (asked (addressOf (card .words)) f)))
-
--- an answer was sent: the number, the answer's length and the whole answer buffer
-pub record Sent (answer : Answer) (out : List ℕ) (number len : ℕ) (out′ : List ℕ) : Type 0 where
-  pub numbered : number ≡ answer .number
-  pub wrote : Wrote (answer .bytes) out len out′

@@ -235,23 +235,19 @@ unheard test number rest = choose test rest (Unheard number)
 abbrev pub unless : Bool → ℕ → Order → Order
 unless test number rest = choose test rest (Refused number)
 
--- what a frame that reached the unit asks: "layout (3); BCC (4); code (6); read-only (8); data (7)". Fault (9) is found in reading the probe
-unfoldable pub heard : List ℕ → Order
-heard f =
-    unless (sizeRight f) frameForm
-    (unless (endRight f) frameForm
-    (unless (codeRight f) frameForm
-    (unless (bccRight f) checkCharacter
-    (unless (codeKnown f) rangeUnknown
-    (unless (writeRight f) readOnly
-    (unless (dataRight f) valueOutside
-    (orderIn f)))))))
-
--- what a frame asks of the unit at an address: "EOT and figures (3, silent); address (2)", and then the above
+-- what a frame asks of the unit at an address. "Order: EOT and figures (3, silent); address (2); layout (3); BCC (4); code (6); read-only (8);
+-- data (7); fault (9)": the fault is found in reading the probe
 unfoldable pub asked : ℕ → List ℕ → Order
 asked address f =
     unheard (lengthRight (length f)) frameForm
     (unheard (eqb (getD f 0 0) eot) frameForm
     (unheard (figuresRight f) frameForm
     (unheard (reaches address f) foreignAddress
-    (heard f))))
+    (unless (sizeRight f) frameForm
+    (unless (endRight f) frameForm
+    (unless (codeRight f) frameForm
+    (unless (bccRight f) checkCharacter
+    (unless (codeKnown f) rangeUnknown
+    (unless (writeRight f) readOnly
+    (unless (dataRight f) valueOutside
+    (orderIn f)))))))))))

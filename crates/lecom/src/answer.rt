@@ -21,9 +21,9 @@ ghost use lib.ListN.{length};
 ghost use Rattle.card.specs.Numbers.{rangeUnknown};
 ghost use Rattle.card.specs.Layout.{wordCount, memorySize};
 ghost use Rattle.card.specs.Probe.{readingOf};
-ghost use Rattle.card.specs.Reply.{Wrote, GaveWords, roomLeast};
+ghost use Rattle.card.specs.Reply.{Wrote, GaveWords, roomLeast, Told};
 ghost use Rattle.lecom.specs.Frame.{stx, ack, shortest, codeEnd, codeOf, asked};
-ghost use Rattle.lecom.specs.Answer.{valueBytes, unknownBytes, refusalBytes, doneBy, refusedBy, probeAnswer, readAnswer, written, obeyed, addressOf, Sent};
+ghost use Rattle.lecom.specs.Answer.{valueBytes, unknownBytes, refusalBytes, doneBy, refusedBy, probeAnswer, readAnswer, written, obeyed, addressOf};
 
 // Writes STX and the code as received.
 fn put_code(f: &[u8], out: &mut [u8]) -> usize
@@ -78,7 +78,7 @@ fn put_refusal(f: &[u8], out: &mut [u8], number: u8) -> usize
 // Refuses a frame.
 fn refuse(f: &[u8], out: &mut [u8], number: u8) -> Outcome
     requires { ⌜ ((shortest ≤ length (now f)) × (number ≡ rangeUnknown → codeEnd (now f) ≤ length (now f))) × (roomLeast ≤ length (now out)) ⌝ }
-    ensures { λ r. ⌜ Sent (refusedBy (now (f .entry)) number) (now (out .entry)) (r .number) (r .len) (now (out .exit)) ⌝ }
+    ensures { λ r. ⌜ Told (refusedBy (now (f .entry)) number) (now (out .entry)) (r .number) (r .len) (now (out .exit)) ⌝ }
 {
     if frame::is_collective(f) {
         return Outcome { number, len: 0 };
@@ -90,7 +90,7 @@ fn refuse(f: &[u8], out: &mut [u8], number: u8) -> Outcome
 // Answers a read by a value.
 fn tell(f: &[u8], out: &mut [u8], value: u32) -> Outcome
     requires { ⌜ ((shortest ≤ length (now f)) × (codeEnd (now f) ≤ length (now f))) × (roomLeast ≤ length (now out)) ⌝ }
-    ensures { λ r. ⌜ Sent (doneBy (now (f .entry)) (valueBytes (now (f .entry)) value)) (now (out .entry)) (r .number) (r .len) (now (out .exit)) ⌝ }
+    ensures { λ r. ⌜ Told (doneBy (now (f .entry)) (valueBytes (now (f .entry)) value)) (now (out .entry)) (r .number) (r .len) (now (out .exit)) ⌝ }
 {
     if frame::is_collective(f) {
         return Outcome {
@@ -108,7 +108,7 @@ fn tell(f: &[u8], out: &mut [u8], value: u32) -> Outcome
 // Answers a write that was carried out.
 fn acknowledge(f: &[u8], out: &mut [u8]) -> Outcome
     requires { ⌜ (shortest ≤ length (now f)) × (roomLeast ≤ length (now out)) ⌝ }
-    ensures { λ r. ⌜ Sent (doneBy (now (f .entry)) (ack ∷ [])) (now (out .entry)) (r .number) (r .len) (now (out .exit)) ⌝ }
+    ensures { λ r. ⌜ Told (doneBy (now (f .entry)) (ack ∷ [])) (now (out .entry)) (r .number) (r .len) (now (out .exit)) ⌝ }
 {
     if frame::is_collective(f) {
         return Outcome {
@@ -126,18 +126,18 @@ fn acknowledge(f: &[u8], out: &mut [u8]) -> Outcome
 // Answers a read of a probe: a temperature is taken out of the reading, or the fault is answered.
 fn read_probe(f: &[u8], out: &mut [u8], code: u8) -> Outcome
     requires { ⌜ ((shortest ≤ length (now f)) × (codeEnd (now f) ≤ length (now f))) × (roomLeast ≤ length (now out)) ⌝ }
-    ensures { λ r. ⌜ Sent (probeAnswer (now (f .entry)) (readingOf code)) (now (out .entry)) (r .number) (r .len) (now (out .exit)) ⌝ }
+    ensures { λ r. ⌜ Told (probeAnswer (now (f .entry)) (readingOf code)) (now (out .entry)) (r .number) (r .len) (now (out .exit)) ⌝ }
 {
     let Reading::Temperature(tenths) = probe::read_code(code) else {
         return refuse(f, out, PROBE_FAULT);
     };
-    tell(f, out, tenths.0)
+    tell(f, out, tenths.word())
 }
 
 // Answers a read of a known code.
 fn read(words: &[u32], memory: &[u8], f: &[u8], out: &mut [u8], code: u32) -> Outcome
     requires { ⌜ (((shortest ≤ length (now f)) × (codeEnd (now f) ≤ length (now f))) × (roomLeast ≤ length (now out))) × ((length (now words) ≡ wordCount) × (length (now memory) ≡ memorySize)) ⌝ }
-    ensures { λ r. ⌜ Sent (readAnswer (now (words .entry)) (now (memory .entry)) (now (f .entry)) code) (now (out .entry)) (r .number) (r .len) (now (out .exit)) ⌝ }
+    ensures { λ r. ⌜ Told (readAnswer (now (words .entry)) (now (memory .entry)) (now (f .entry)) code) (now (out .entry)) (r .number) (r .len) (now (out .exit)) ⌝ }
 {
     if code < Lecom::FIRST_PROBE {
         return tell(f, out, words[OPERATIONAL + code as usize]);

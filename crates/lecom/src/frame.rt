@@ -10,18 +10,17 @@ use card::numbers::VALUE_OUTSIDE;
 use figures::DECIMAL;
 use figures::Parsed;
 use figures::UPPER_HEX;
+use wire::BYTE_VALUES;
 ghost use mathlib.Core.Path.{_≡_};
 ghost use mathlib.Core.Bool.{true};
 ghost use Prim.Native.Nat.{_+_, _≤_};
 ghost use lib.ListN.{length};
 ghost use Rattle.card.specs.Numbers.{valueOutside, readOnly};
-ghost use Rattle.lecom.specs.Frame.{shortest, collective, reaches, isWrite, codeStart, isExtended, hexStart, codeEnd, sizeRight, endRight, codeRight, bccOf, bccRight, pairIn, codeNumber, subcodeRight, codeNamed, codeKnown, writable, writeRight, takes, valueRight, valueIn, dataRight, orderIn, unless, heard, asked};
+ghost use Rattle.lecom.specs.Frame.{shortest, collective, reaches, isWrite, codeStart, isExtended, hexStart, codeEnd, sizeRight, endRight, codeRight, bccOf, bccRight, pairIn, codeNumber, subcodeRight, codeNamed, codeKnown, writable, writeRight, takes, valueRight, valueIn, dataRight, orderIn, unless, asked};
+ghost use Rattle.lecom.specs.Stages.{heard};
 
 // What an address's first figure counts.
 const TEN: u32 = DECIMAL as u32;
-
-// How many values a pair of hex characters has.
-const PAIR_VALUES: u32 = 256;
 
 // What a frame asks: nothing, with no byte sent; nothing, and the unit says so; a code's value; or a value for a code.
 pub enum Order {
@@ -176,7 +175,7 @@ fn code_number(f: &[u8]) -> u32
     let at = hex_start(f);
     let first = pair_in(f, at);
     if is_extended(f) {
-        return PAIR_VALUES * first + pair_in(f, at + Lecom::STANDARD);
+        return BYTE_VALUES * first + pair_in(f, at + Lecom::STANDARD);
     }
     first
 }

@@ -14,8 +14,6 @@ use Rattle.card.specs.declared.governor.Governor.{Governor}
 use Rattle.card.specs.declared.governor.Governor.the-variants.{Degrees, Fault, Refused}
 use Rattle.card.specs.Governor.{numberOf, valuesOf}
 use Rattle.lines.specs.Lent.{roomMost}
-use Rattle.master.specs.declared.Verdict.{Verdict}
-use Rattle.master.specs.declared.Verdict.the-variants.{Open, Done, Unknown}
 
 -- text was written into out from a place on: the place after it, at most so many bytes on, and the whole buffer
 pub record Put (most at : ℕ) (text out : List ℕ) (r : ℕ) (out′ : List ℕ) : Type 0 where
@@ -68,19 +66,3 @@ abbrev pub isReal : Governor → Bool
 isReal (Degrees d) = not (isNan d)
 isReal Fault = true
 isReal (Refused number) = true
-
--- "what the master then says (`open`, `done` or `unknown`)", after a space
-unfoldable pub verdictOf : Verdict → List ℕ
-verdictOf Open = 32 ∷ 111 ∷ 112 ∷ 101 ∷ 110 ∷ []
-verdictOf Done = 32 ∷ 100 ∷ 111 ∷ 110 ∷ 101 ∷ []
-verdictOf Unknown = 32 ∷ 117 ∷ 110 ∷ 107 ∷ 110 ∷ 111 ∷ 119 ∷ 110 ∷ []
-
-abbrev pub verdictMost : ℕ
-verdictMost = 8
-
--- "the number, what the master then says, the frame's bytes"
-unfoldable pub stepped : ℕ → Verdict → List ℕ → List ℕ
-stepped number verdict bytes = (shortest number ++ verdictOf verdict) ++ spaced bytes
-
-abbrev pub steppedMost : ℕ
-steppedMost = longestText + verdictMost + 3 * roomMost

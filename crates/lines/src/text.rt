@@ -2,7 +2,7 @@
 use card::governor::Governor;
 use card::numbers::ANSWERED;
 use card::numbers::PROBE_FAULT;
-use master::Verdict;
+use wire::BYTE_VALUES;
 ghost use mathlib.Core.List.{[], _∷_, _++_};
 ghost use Prim.Native.Nat.{_+_, _*_, _≤_};
 ghost use lib.Dec.{T};
@@ -11,7 +11,7 @@ ghost use Rattle.figures.specs.Decimal.{shortest};
 ghost use Rattle.figures.specs.Signed.{longestText};
 ghost use Rattle.card.specs.Numbers.{answered};
 ghost use Rattle.lines.specs.Lent.{roomMost};
-ghost use Rattle.lines.specs.Text.{Put, spaced, told, toldMost, entryOf, eightMost, eight, values, readingMost, reading, isReal, verdictMost, verdictOf, stepped, steppedMost};
+ghost use Rattle.lines.specs.Text.{Put, spaced, told, toldMost, entryOf, eightMost, eight, values, readingMost, reading, isReal};
 
 pub const SPACE: u8 = b' ';
 
@@ -19,11 +19,11 @@ pub const SPACE: u8 = b' ';
 const SPACED: usize = 3;
 
 // The weights of a word's upper bytes, and where the figures of the lower ones stand.
-const SECOND_WEIGHT: u32 = 256;
+const SECOND_WEIGHT: u32 = BYTE_VALUES;
 
-const THIRD_WEIGHT: u32 = 65_536;
+const THIRD_WEIGHT: u32 = BYTE_VALUES * SECOND_WEIGHT;
 
-const FOURTH_WEIGHT: u32 = 16_777_216;
+const FOURTH_WEIGHT: u32 = BYTE_VALUES * THIRD_WEIGHT;
 
 const THIRD_PLACE: usize = 2;
 
@@ -100,9 +100,17 @@ fn put_bits(out: &mut [u8], at: usize, bits: u32) -> usize
     ensures { λ r. ⌜ Put eightMost at (eight bits) (now (out .entry)) r (now (out .exit)) ⌝ }
 {
     figures::put_pair(out, at, (bits / FOURTH_WEIGHT) as u8);
-    figures::put_pair(out, at + THIRD_PLACE, (bits / THIRD_WEIGHT % 256) as u8);
-    figures::put_pair(out, at + SECOND_PLACE, (bits / SECOND_WEIGHT % 256) as u8);
-    figures::put_pair(out, at + FIRST_PLACE, (bits % 256) as u8);
+    figures::put_pair(
+        out,
+        at + THIRD_PLACE,
+        (bits / THIRD_WEIGHT % BYTE_VALUES) as u8,
+    );
+    figures::put_pair(
+        out,
+        at + SECOND_PLACE,
+        (bits / SECOND_WEIGHT % BYTE_VALUES) as u8,
+    );
+    figures::put_pair(out, at + FIRST_PLACE, (bits % BYTE_VALUES) as u8);
     at + EIGHT
 }
 
@@ -126,26 +134,4 @@ pub fn tell_reading(out: &mut [u8], told: Governor) -> usize
         Governor::Fault => tell_number(out, PROBE_FAULT),
         Governor::Refused(number) => tell_number(out, number),
     }
-}
-
-// What the master says, after a space.
-fn put_verdict(out: &mut [u8], at: usize, verdict: Verdict) -> usize
-    requires { ⌜ at + verdictMost ≤ length (now out) ⌝ }
-    ensures { λ r. ⌜ Put verdictMost at (verdictOf verdict) (now (out .entry)) r (now (out .exit)) ⌝ }
-{
-    match verdict {
-        Verdict::Open => put_words(out, at, b" open"),
-        Verdict::Done => put_words(out, at, b" done"),
-        Verdict::Unknown => put_words(out, at, b" unknown"),
-    }
-}
-
-// The line of a master's step, with the first len bytes of frame.
-pub fn tell_step(out: &mut [u8], number: u8, verdict: Verdict, frame: &[u8], len: usize) -> usize
-    requires { ⌜ ((len ≤ length (now frame)) × (length (now frame) ≤ roomMost)) × (steppedMost ≤ length (now out)) ⌝ }
-    ensures { λ r. ⌜ Put steppedMost 0 (stepped number verdict (take len (now (frame .entry)))) (now (out .entry)) r (now (out .exit)) ⌝ }
-{
-    let at = put_number(out, 0, number as u32);
-    let said = put_verdict(out, at, verdict);
-    put_bytes(out, said, &frame[..len])
 }

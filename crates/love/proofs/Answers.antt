@@ -16,17 +16,18 @@ use Rattle.figures.specs.Signed.{isNegative, magnitude}
 use Rattle.card.specs.declared.probe.Tenths.{Tenths}
 use Rattle.card.specs.declared.probe.Reading.{Reading}
 use Rattle.card.specs.declared.probe.Reading.the-variants.{Temperature, Fault}
+use Rattle.card.specs.Tables.{loveHundred}
 use Rattle.card.specs.Reply.{WordsReply, Wrote, GaveWords, roomLeast}
-use Rattle.love.specs.Form.{stx, ack, filterAt, addressAt, fieldAt, tail, hundred, pair, filterOf}
+use Rattle.love.specs.Form.{stx, ack, filterAt, addressAt, fieldAt, tail, pair, filterOf}
 use Rattle.love.specs.Answer.{unitOf, errorMark, errorReply, normalReply, figureCount, fineChar, faultChar, negativeChar, statusField, probeField}
 
 module _ (address : ℕ) (out : List ℕ) where
   -- STX, filter and address stored
-  pub unit-stored : roomLeast ≤ length out → put (sets out 0 (stx ∷ filterOf address ∷ [])) addressAt (pairOf (address % hundred)) ≡ overlay (stx ∷ unitOf address) out
+  pub unit-stored : roomLeast ≤ length out → put (sets out 0 (stx ∷ filterOf address ∷ [])) addressAt (pairOf (address % loveHundred)) ≡ overlay (stx ∷ unitOf address) out
   unfolding unitOf
   unit-stored h =
-      ap (λ (l : List ℕ). put l addressAt (pairOf (address % hundred))) (overlay-sets (stx ∷ filterOf address ∷ []) out (omega arith))
-      ∙ overlay-put (stx ∷ filterOf address ∷ []) (pairOf (address % hundred)) out
+      ap (λ (l : List ℕ). put l addressAt (pairOf (address % loveHundred))) (overlay-sets (stx ∷ filterOf address ∷ []) out (omega arith))
+      ∙ overlay-put (stx ∷ filterOf address ∷ []) (pairOf (address % loveHundred)) out
 
   -- data put after them
   pub field-put : (field : List ℕ) → put (overlay (stx ∷ unitOf address) out) fieldAt field ≡ overlay (stx ∷ (unitOf address ++ field)) out

@@ -18,7 +18,8 @@ use Rattle.card.specs.Layout.{loveCount}
 use Rattle.card.specs.Tables.{inSpan, loveLeast, loveMost}
 use Rattle.card.proofs.Facts.{and-true}
 use Rattle.love.specs.Form.{shortest, longest, lengthRight, addressAt, fieldAt}
-use Rattle.love.specs.Frame.{byteAt, orderWrite, orderBy, orderIn, orderHere, asked}
+use Rattle.love.specs.Frame.{byteAt, asked}
+use Rattle.love.specs.Stages.{orderWrite, orderBy, orderIn, orderHere}
 use Rattle.love.specs.declared.frame.Order.{Order}
 use Rattle.love.specs.declared.frame.Order.the-variants.{Silent, Refused, Probe, Read, Write}
 
@@ -74,7 +75,7 @@ unfolding orderHere
 here-within address f = or-silent _ _ _ (λ _. or-refused _ _ _ _ (λ _. or-refused _ _ _ _ (λ _. in-within _)))
 
 pub within : (address : ℕ) (f : List ℕ) → Within (asked address f)
-unfolding asked
+unfolding asked orderHere orderIn orderBy orderWrite
 within address f = or-silent _ _ _ (λ _. or-silent _ _ _ (λ _. or-silent _ _ _ (λ _. or-silent _ _ _ (λ _. here-within address f))))
 
 -- the same of an order that a frame was found to ask

@@ -9,18 +9,19 @@ use Rattle.figures.specs.Decimal.{digits}
 use Rattle.figures.specs.Signed.{isNegative, magnitude}
 use Rattle.card.specs.Numbers.{answered}
 use Rattle.card.specs.Layout.{Card, loveAddressAt, loveAt}
+use Rattle.card.specs.Tables.{loveHundred}
 use Rattle.card.specs.Probe.{readingOf}
 use Rattle.card.specs.Reply.{Reply, WordsReply, onWords, shell, roomLeast}
 use Rattle.card.specs.declared.probe.Reading.{Reading}
 use Rattle.card.specs.declared.probe.Reading.the-variants.{Temperature, Fault}
-use Rattle.love.specs.Form.{stx, ack, hundred, filterOf}
+use Rattle.love.specs.Form.{stx, ack, filterOf}
 use Rattle.love.specs.Frame.{asked}
 use Rattle.love.specs.declared.frame.Order.{Order}
 use Rattle.love.specs.declared.frame.Order.the-variants.{Silent, Refused, Probe, Read, Write}
 
 -- filter and address, which follow STX in every reply
 unfoldable pub unitOf : ℕ → List ℕ
-unitOf address = filterOf address ∷ pairOf (address % hundred)
+unitOf address = filterOf address ∷ pairOf (address % loveHundred)
 
 -- ASCII N, the mark of an error reply
 abbrev pub errorMark : ℕ

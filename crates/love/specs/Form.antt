@@ -4,6 +4,7 @@ use mathlib.Core.Bool.{Bool, _&&_}
 use mathlib.Core.List.{List, [], _∷_}
 use lib.Dec.{leb}
 use lib.ListN.{getD}
+use Rattle.card.specs.Tables.{loveHundred}
 
 -- "Each dialect carries its own shortest and longest frame: .. Love 7 and 32"
 abbrev pub shortest : ℕ
@@ -40,10 +41,6 @@ fieldAt = 4
 abbrev pub tail : ℕ
 tail = 3
 
--- how many addresses share a filter character
-abbrev pub hundred : ℕ
-hundred = 0x100
-
 -- how many figures a byte is
 abbrev pub pair : ℕ
 pair = 2
@@ -54,4 +51,4 @@ letters = 0x4C ∷ 0x4F ∷ 0x56 ∷ 0x45 ∷ []
 
 -- "By the address's hundreds in hex the filter character is taken from the four letters LOVE"
 unfoldable pub filterOf : ℕ → ℕ
-filterOf address = getD letters (address / hundred) 0
+filterOf address = getD letters (address / loveHundred) 0

@@ -1,5 +1,5 @@
--- What a Love frame asks of the unit at an address, in the order of document 01, "Love": a line of an order is a test, and the number
--- and the error code if it fails.
+-- What a Love frame asks of the unit at an address: document 01, "Love", "Order". A line of `asked` is a test, and the number and the error
+-- code if it fails.
 use Prim.Native.Nat.{ℕ, _+_, _-_, _%_}
 use mathlib.Core.Bool.{Bool, _&&_, _||_}
 use mathlib.Core.List.{List}
@@ -13,8 +13,8 @@ use Rattle.figures.specs.Decimal.{valueOf}
 use Rattle.figures.specs.Signed.{withSign}
 use Rattle.card.specs.Numbers.{foreignAddress, frameForm, checkCharacter, commandUnknown, valueOutside}
 use Rattle.card.specs.Layout.{loveCount}
-use Rattle.card.specs.Tables.{inSpan, loveLeast, loveMost}
-use Rattle.love.specs.Form.{lengthRight, stx, etx, filterAt, addressAt, fieldAt, tail, hundred, filterOf}
+use Rattle.card.specs.Tables.{inSpan, loveHundred, loveLeast, loveMost}
+use Rattle.love.specs.Form.{lengthRight, stx, etx, filterAt, addressAt, fieldAt, tail, filterOf}
 use Rattle.love.specs.declared.frame.Order.{Order}
 use Rattle.love.specs.declared.frame.Order.the-variants.{Silent, Refused, Probe, Read, Write}
 
@@ -52,7 +52,7 @@ byteAt limit s i = pairByte limit (getD s i 0) (getD s (i + 1) 0)
 
 -- filter and address are the unit's
 unfoldable pub forUnit : ℕ → List ℕ → Bool
-forUnit address f = eqb (getD f filterAt 0) (filterOf address) && eqb (byteAt upperHex f addressAt) (address % hundred)
+forUnit address f = eqb (getD f filterAt 0) (filterOf address) && eqb (byteAt upperHex f addressAt) (address % loveHundred)
 
 -- "A host checksum adds address and data characters. .. The host's two checksum figures are upper-case, else 4."
 unfoldable pub checksumRight : List ℕ → Bool
@@ -137,49 +137,38 @@ signRight field = eqb (byteAt hex field signAt) plusSign || eqb (byteAt hex fiel
 unfoldable pub numberIn : List ℕ → ℕ
 numberIn field = withSign (eqb (byteAt hex field signAt) minusSign) (valueOf (part field valueAt signAt))
 
--- "Write: four decimal figures, then sign 00 or FF; else 7, code 05. Value outside: 7, code 06."
-unfoldable pub orderWrite : ℕ → List ℕ → Order
-orderWrite k field =
-    unless (allFigures decimal (part field valueAt signAt)) valueOutside fieldError
-    (unless (signRight field) valueOutside fieldError
-    (unless (inSpan loveLeast loveMost (numberIn field)) valueOutside outOfRange
-    (Write k (numberIn field))))
-
--- "0100, 0102, 0104, 0105 read with d = 4; 0200, 0202, 0204, 0205 write with d = 10; else 5, code 01; a wrong d is 3, code 05."
-unfoldable pub orderBy : ℕ → ℕ → List ℕ → Order
-orderBy command k field =
-    unless (ltb k loveCount) commandUnknown undefinedCommand
-    (choose (eqb command readCommand)
-    (unless (eqb (length field) readLength) frameForm fieldError
-    (Read k))
-    (unless (eqb command writeCommand) commandUnknown undefinedCommand
-    (unless (eqb (length field) writeLength) frameForm fieldError
-    (orderWrite k field))))
-
--- "d below 2 or above 10: 3, code 05. 00 needs d = 2, else 3, code 05. Any other with d below 4: 3, code 05."
-unfoldable pub orderIn : List ℕ → Order
-orderIn field =
-    unless (leb fieldLeast (length field)) frameForm fieldError
-    (unless (leb (length field) fieldMost) frameForm fieldError
-    (choose (eqb (byteAt hex field commandAt) statusCommand)
-    (unless (eqb (length field) statusLength) frameForm fieldError
-    Probe)
-    (unless (leb commandLength (length field)) frameForm fieldError
-    (orderBy (byteAt hex field commandAt) (parameterOf (byteAt hex field parameterAt)) field))))
-
--- "filter and address (2); checksum (4, code 02); data characters outside 0-9, A-F, a-f (3, code 04); then, d being the data length:"
-unfoldable pub orderHere : ℕ → List ℕ → Order
-orderHere address f =
-    silently (forUnit address f) foreignAddress
-    (unless (checksumRight f) checkCharacter checksumError
-    (unless (allFigures hex (fieldOf f)) frameForm illegalCharacter
-    (orderIn (fieldOf f))))
-
--- "Order: STX, ETX, address figures (3, silent);"
+-- "Order: STX, ETX, address figures (3, silent); filter and address (2); checksum (4, code 02); data characters outside 0-9, A-F, a-f
+-- (3, code 04); then, d being the data length:
+-- - d below 2 or above 10: 3, code 05.
+-- - 00 needs d = 2, else 3, code 05. Any other with d below 4: 3, code 05.
+-- - 0100, 0102, 0104, 0105 read with d = 4; 0200, 0202, 0204, 0205 write with d = 10; else 5, code 01; a wrong d is 3, code 05.
+-- - Write: four decimal figures, then sign 00 or FF; else 7, code 05. Value outside: 7, code 06."
 unfoldable pub asked : ℕ → List ℕ → Order
 asked address f =
+    let field = fieldOf f in
+    let d = length field in
+    let command = byteAt hex field commandAt in
+    let k = parameterOf (byteAt hex field parameterAt) in
     silently (lengthRight (length f)) frameForm
     (silently (eqb (getD f 0 0) stx) frameForm
     (silently (eqb (getD f (length f - 1) 0) etx) frameForm
     (silently (allFigures upperHex (part f addressAt fieldAt)) frameForm
-    (orderHere address f))))
+    (silently (forUnit address f) foreignAddress
+    (unless (checksumRight f) checkCharacter checksumError
+    (unless (allFigures hex field) frameForm illegalCharacter
+    (unless (leb fieldLeast d) frameForm fieldError
+    (unless (leb d fieldMost) frameForm fieldError
+    (choose (eqb command statusCommand)
+    (unless (eqb d statusLength) frameForm fieldError
+    Probe)
+    (unless (leb commandLength d) frameForm fieldError
+    (unless (ltb k loveCount) commandUnknown undefinedCommand
+    (choose (eqb command readCommand)
+    (unless (eqb d readLength) frameForm fieldError
+    (Read k))
+    (unless (eqb command writeCommand) commandUnknown undefinedCommand
+    (unless (eqb d writeLength) frameForm fieldError
+    (unless (allFigures decimal (part field valueAt signAt)) valueOutside fieldError
+    (unless (signRight field) valueOutside fieldError
+    (unless (inSpan loveLeast loveMost (numberIn field)) valueOutside outOfRange
+    (Write k (numberIn field)))))))))))))))))))

@@ -1,10 +1,10 @@
 // What the card answers a Love frame. Document 01, "Love", last paragraph.
-use crate::form::HUNDRED;
 use crate::form::Love;
 use crate::form::PAIR;
 use crate::frame;
 use crate::frame::Order;
 use card::Outcome;
+use card::fitness::LOVE_HUNDRED;
 use card::layout::LOVE;
 use card::layout::LOVE_ADDRESS;
 use card::numbers::ANSWERED;
@@ -58,7 +58,7 @@ fn put_unit(out: &mut [u8], address: u32)
 {
     out[0] = Love::STX;
     out[Love::FILTER] = Love::filter(address);
-    figures::put_pair(out, Love::ADDRESS, (address % HUNDRED) as u8);
+    figures::put_pair(out, Love::ADDRESS, (address % LOVE_HUNDRED) as u8);
 }
 
 // Writes what ends a normal reply whose data ends before index end: checksum and ACK.
@@ -138,7 +138,7 @@ fn put_probe(out: &mut [u8], address: u32, code: u8) -> usize
     let Reading::Temperature(tenths) = read_code(code) else {
         return put_status(out, address, FAULT, ZERO, 0);
     };
-    let word = tenths.0;
+    let word = tenths.word();
     let number = figures::magnitude(word);
     if figures::is_negative(word) {
         return put_status(out, address, FINE, BELOW_ZERO, number);

@@ -1,11 +1,9 @@
 // The form of a Love frame: STX, filter, two address figures, data, two checksum figures, ETX. Document 01, "Love".
+use card::fitness::LOVE_HUNDRED;
 ghost use mathlib.Core.Path.{_≡_};
 ghost use Prim.Native.Nat.{_≤_};
 ghost use Rattle.card.specs.Tables.{loveAddressMost};
 ghost use Rattle.love.specs.Form.{lengthRight, filterOf};
-
-// How many addresses share a filter character.
-pub const HUNDRED: u32 = 0x100;
 
 // How many figures a byte is.
 pub const PAIR: usize = 2;
@@ -45,7 +43,7 @@ impl Love {
         ensures { λ r. ⌜ r ≡ filterOf address ⌝ }
     {
         let letters = b"LOVE";
-        let hundreds = (address / HUNDRED) as usize;
+        let hundreds = (address / LOVE_HUNDRED) as usize;
         letters[hundreds]
     }
 }

@@ -1,6 +1,6 @@
 // What a Love frame asks of the unit at an address. Document 01, "Love", in its order.
-use crate::form::HUNDRED;
 use crate::form::Love;
+use card::fitness::LOVE_HUNDRED;
 use card::fitness::LOVE_LEAST;
 use card::fitness::LOVE_MOST;
 use card::fitness::in_span;
@@ -24,7 +24,8 @@ ghost use Rattle.wire.specs.Buffer.{part};
 ghost use Rattle.figures.specs.Figure.{decimal, upperHex, hex, allFigures};
 ghost use Rattle.card.specs.Tables.{loveAddressMost};
 ghost use Rattle.love.specs.Form.{shortest, addressAt};
-ghost use Rattle.love.specs.Frame.{forUnit, checksumRight, byteAt, parameterOf, writeLength, valueAt, signAt, plusSign, minusSign, numberIn, orderWrite, orderBy, orderIn, orderHere, asked};
+ghost use Rattle.love.specs.Frame.{forUnit, checksumRight, byteAt, parameterOf, writeLength, valueAt, signAt, plusSign, minusSign, numberIn, asked};
+ghost use Rattle.love.specs.Stages.{orderWrite, orderBy, orderIn, orderHere};
 
 // Error codes, by source document 004's names.
 const UNDEFINED_COMMAND: u8 = 0x01;
@@ -108,7 +109,7 @@ fn is_for(address: u32, unit: u32, f: &[u8]) -> bool
     ensures { λ r. ⌜ r ≡ forUnit address (now (f .entry)) ⌝ }
 {
     let filter = Love::filter(address);
-    (f[Love::FILTER] == filter) & (unit == address % HUNDRED)
+    (f[Love::FILTER] == filter) & (unit == address % LOVE_HUNDRED)
 }
 
 // Whether a frame's two checksum figures are its checksum.

@@ -1,80 +1,40 @@
 -- A fit card stays fit, whatever LucidControl frame it gets. Assumes nothing.
-use mathlib.Core.Path.{_≡_, refl, ap, _∙_, subst}
+use mathlib.Core.Path.{_≡_, refl, _∙_, subst}
 use mathlib.Core.Bool.{Bool, true}
 use mathlib.Core.List.{List, [], _∷_}
-use Prim.Native.Nat.{ℕ, zero, suc, _+_, _-_, _*_, _/_, _%_, _≤_, _<_}
+use Prim.Native.Nat.{ℕ, zero, suc, _+_, _*_, _/_, _%_, _≤_, _<_}
 use native.Mathlib.Omega.{arith}
 use borrow.Author.Tests.{le-leb}
-use lib.Dec.{leb, eqb}
-use lib.ListN.{length, getD, take, drop, set, length-set}
-use lib.Seq.{getD-set-other, drop-set-lt, drop-set-add, take-set-le, take-set-lt}
+use lib.Dec.{eqb}
+use lib.ListN.{length, getD, set, length-set}
+use lib.Seq.{take-set-le, drop-set-lt}
 use Rattle.wire.specs.Choose.{choose}
 use Rattle.wire.specs.Buffer.{part}
 use Rattle.wire.proofs.Cases.{by-choice}
-use Rattle.card.specs.Layout.{Card, iaAt, lecomAddressAt, loveAddressAt, loveAt, demandsAt, channels, parametersAt, parameterCount, keptAt, bufferAt, wordCount, memorySize, pendingSize}
-use Rattle.card.specs.Tables.{inSpan, allIn, fitAddresses, fitParameters, fitWords, fitPending, fit, loveLeast, loveMost, demandMost, cycleLeast, cycleMost, floorMost}
-use Rattle.card.specs.Reply.{Reply, WordsReply, onWords, shell, roomLeast}
-use Rattle.card.proofs.Facts.{and-true, allIn-set}
+use Rattle.wire.proofs.Buffers.{part-set}
+use Rattle.card.specs.Layout.{Card, demandsAt, channels, parametersAt, parameterCount, keptAt, bufferAt}
+use Rattle.card.specs.Tables.{inSpan, fitParameters, fitWords, fit, demandMost, cycleLeast, cycleMost, cycleDefault, floorMost, floorDefault}
+use Rattle.card.specs.Reply.{WordsReply, onWords, roomLeast}
+use Rattle.card.proofs.Facts.{and-true, allIn-set, fit-tables, fit-words}
+use Rattle.card.proofs.Changed.{demands-changed, parameters-changed}
+use Rattle.card.proofs.Staying.{IsFit, shell-fit, words-reply-fit}
 use Rattle.lucid.specs.Form.{fits, channelsFrom, numberAt}
-use Rattle.lucid.specs.Frame.{asked, Placed}
-use Rattle.lucid.specs.Answer.{demanded, stored, cycleDefault, floorDefault, reset, changed, obeyed, lucidWords, lucidReply}
+use Rattle.lucid.specs.Frame.{asked}
+use Rattle.lucid.specs.Stages.{Placed}
+use Rattle.lucid.specs.Answer.{demanded, stored, reset, changed, obeyed, lucidWords, lucidReply}
 use Rattle.lucid.specs.declared.frame.Order.{Order}
 use Rattle.lucid.specs.declared.frame.Order.the-variants.{Refused, GetIo, SetIo, GetParam, SetParam, Reset}
 use Rattle.lucid.proofs.Judged.{parameterFits, Ranged, safe}
 
 -- a word of the demands or the parameters becomes another
 
-module _ (ws : List ℕ) (i v : ℕ) where
-  part-past : (a e : ℕ) → i < a → part (set ws i v) a e ≡ part ws a e
-  part-past a e h = ap (take (e - a)) (drop-set-lt a ws i v h)
-
-  part-before : (a e : ℕ) → a ≤ e → e ≤ i → part (set ws i v) a e ≡ part ws a e
-  part-before a e h l =
-      let m : i ≡ a + (i - a) = omega arith in
-      ap (λ (n : ℕ). part (set ws n v) a e) m ∙ ap (take (e - a)) (drop-set-add a ws (i - a) v) ∙ take-set-le (e - a) (drop a ws) (i - a) v (omega arith)
-
-part-within : (ws : List ℕ) (a e k v : ℕ) → k < e - a → part (set ws (a + k) v) a e ≡ set (part ws a e) k v
-part-within ws a e k v h = ap (take (e - a)) (drop-set-add a ws k v) ∙ take-set-lt (e - a) (drop a ws) k v h
-
-module _ (ws : List ℕ) (i v : ℕ) (least : demandsAt ≤ i) (most : i < bufferAt) (fine : fitWords ws ≡ true) where
-  word-kept : (k : ℕ) → k < loveAt → getD (set ws i v) k 0 ≡ getD ws k 0
-  word-kept k l = getD-set-other ws i k v 0 (λ e. let z : ⊥ = omega arith in z)
-
-  words-fit : allIn 0 demandMost (part (set ws i v) demandsAt parametersAt) ≡ true → fitParameters (part (set ws i v) parametersAt bufferAt) ≡ true → fitWords (set ws i v) ≡ true
-  unfolding fitWords
-  words-fit demands parameters =
-      let a = and-true (fitAddresses (getD ws iaAt 0) (getD ws lecomAddressAt 0) (getD ws loveAddressAt 0)) _ fine in
-      let b = and-true (allIn loveLeast loveMost (part ws loveAt demandsAt)) _ (a .1) in
-      let d = and-true (allIn 0 demandMost (part ws demandsAt parametersAt)) _ (b .1) in
-      let p = and-true (fitParameters (part ws parametersAt bufferAt)) _ (d .1) in
-      rw (
-        word-kept iaAt (omega arith),
-        word-kept lecomAddressAt (omega arith),
-        word-kept loveAddressAt (omega arith),
-        part-before ws i v loveAt demandsAt (omega arith) least,
-        demands,
-        parameters,
-        part-past ws i v bufferAt wordCount most,
-        a .0,
-        b .0,
-      )
-      (p .1)
-
-demands-of : (ws : List ℕ) → fitWords ws ≡ true → (allIn 0 demandMost (part ws demandsAt parametersAt) ≡ true) × (fitParameters (part ws parametersAt bufferAt) ≡ true)
-unfolding fitWords
-demands-of ws fine =
-    let a = and-true (fitAddresses (getD ws iaAt 0) (getD ws lecomAddressAt 0) (getD ws loveAddressAt 0)) _ fine in
-    let b = and-true (allIn loveLeast loveMost (part ws loveAt demandsAt)) _ (a .1) in
-    let d = and-true (allIn 0 demandMost (part ws demandsAt parametersAt)) _ (b .1) in
-    (d .0, and-true (fitParameters (part ws parametersAt bufferAt)) _ (d .1) .0)
-
 pub demand-fit : (ws : List ℕ) (k v : ℕ) → k < channels → v ≤ demandMost → fitWords ws ≡ true → fitWords (set ws (demandsAt + k) v) ≡ true
 unfolding inSpan choose
 demand-fit ws k v h l fine =
-    let t = demands-of ws fine in
-    words-fit ws (demandsAt + k) v (omega arith) (omega arith) fine
-    (rw (part-within ws demandsAt parametersAt k v (omega arith)) (allIn-set 0 demandMost (part ws demandsAt parametersAt) k v (t .0) within))
-    (rw (part-past ws (demandsAt + k) v parametersAt bufferAt (omega arith)) (t .1))
+    demands-changed ws (set ws (demandsAt + k) v) fine
+    (take-set-le demandsAt ws (demandsAt + k) v (omega arith))
+    (drop-set-lt parametersAt ws (demandsAt + k) v (omega arith))
+    (rw (part-set ws demandsAt parametersAt k v (omega arith)) (allIn-set 0 demandMost (part ws demandsAt parametersAt) k v (fit-words ws fine .demands) within))
   where
     within : inSpan 0 demandMost v ≡ true
     within = rw (le-leb 0 v (omega arith), le-leb v demandMost l)
@@ -97,10 +57,10 @@ parameters-set (x ∷ y ∷ s) (suc (suc k)) v e h =
 
 pub parameter-fit : (ws : List ℕ) (k v : ℕ) → k < parameterCount + parameterCount → parameterFits k v ≡ true → fitWords ws ≡ true → fitWords (set ws (parametersAt + k) v) ≡ true
 parameter-fit ws k v h f fine =
-    let t = demands-of ws fine in
-    words-fit ws (parametersAt + k) v (omega arith) (omega arith) fine
-    (rw (part-before ws (parametersAt + k) v demandsAt parametersAt (omega arith) (omega arith)) (t .0))
-    (rw (part-within ws parametersAt bufferAt k v (omega arith)) (parameters-set (part ws parametersAt bufferAt) k v (t .1) f))
+    parameters-changed ws (set ws (parametersAt + k) v) fine
+    (take-set-le parametersAt ws (parametersAt + k) v (omega arith))
+    (drop-set-lt bufferAt ws (parametersAt + k) v (omega arith))
+    (rw (part-set ws parametersAt bufferAt k v (omega arith)) (parameters-set (part ws parametersAt bufferAt) k v (fit-words ws fine .parameters) f))
 
 stored-fit : (place : ℕ) (saved : Bool) (v : ℕ) (ws : List ℕ) → place < parameterCount → parameterFits place v ≡ true → fitWords ws ≡ true → fitWords (stored place saved v ws) ≡ true
 unfolding stored parameterFits
@@ -166,23 +126,15 @@ changed-fit ws f (GetParam place) b k r fine = fine
 changed-fit ws f (SetParam place saved value) b k r fine = stored-fit place saved value ws k r fine
 changed-fit ws f (Reset channel saved) b k r fine = reset-fit channel saved ws k fine
 
-abbrev IsFit : Reply → Type 0
-IsFit reply = fit (reply .card) ≡ true
-
 obeyed-fit : (card : Card) (f : List ℕ) (order : Order) → Bytes f → Placed order → Ranged order → fit card ≡ true → IsFit (onWords card (obeyed (card .words) (card .memory) f order))
-unfolding fit
 obeyed-fit card f order b k r e =
-    let a = and-true (eqb (length (card .words)) wordCount) _ e in
-    let m = and-true (eqb (length (card .memory)) memorySize) _ (a .1) in
-    let p = and-true (eqb (length (card .pending)) pendingSize) _ (m .1) in
-    let w = and-true (fitWords (card .words)) (fitPending (card .pending)) (p .1) in
-    rw (length-changed (card .words) f order, a .0, m .0, p .0, changed-fit (card .words) f order b k r (w .0)) (w .1)
+    let t = fit-tables card e in
+    words-reply-fit card (obeyed (card .words) (card .memory) f order) e
+    (length-changed (card .words) f order ∙ t .words-length)
+    (changed-fit (card .words) f order b k r (t .words-fit))
 
 pub stays-fit : (card : Card) (room : ℕ) (f : List ℕ) → Bytes f → fit card ≡ true → IsFit (lucidReply card room f)
-unfolding lucidReply lucidWords shell
+unfolding lucidReply lucidWords
 stays-fit card room f b e =
-    by-choice IsFit (fit card) _ _
-    (λ _. by-choice IsFit (leb roomLeast room) _ _
-    (λ _. by-choice (λ (r : WordsReply). IsFit (onWords card r)) (fits (length f)) _ _ (λ _. obeyed-fit card f (asked f) b (safe f .0) (safe f .1 .1) e) (λ _. e))
-    (λ _. e))
-    (λ _. e)
+    shell-fit roomLeast card room _ e
+    (by-choice (λ (r : WordsReply). IsFit (onWords card r)) (fits (length f)) _ _ (λ _. obeyed-fit card f (asked f) b (safe f .0) (safe f .1 .1) e) (λ _. e))

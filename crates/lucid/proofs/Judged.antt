@@ -13,7 +13,8 @@ use Rattle.wire.proofs.Cases.{by-choice, yes, no}
 use Rattle.card.specs.Layout.{channels, parameterCount}
 use Rattle.card.specs.Tables.{inSpan, cycleLeast, cycleMost, floorMost}
 use Rattle.lucid.specs.Form.{fieldAt, getParam, cycleAddress, channelsOf, demand, demandSize, sizeOf}
-use Rattle.lucid.specs.Frame.{isGet, isSet, isReset, opcKnown, channelRight, typeWritable, maskOf, lenFor, addressIn, valueIn, inRange, valueRight, placeOf, orderedParameter, ordered, parameterAsked, optionAsked, asked, opcIn, p1In, p2In, lenIn, Sized, Placed, Supplied}
+use Rattle.lucid.specs.Frame.{isGet, isSet, isReset, opcKnown, channelRight, typeWritable, maskOf, lenFor, addressIn, valueIn, inRange, valueRight, placeOf, orderedParameter, ordered, asked, opcIn, p1In, p2In, lenIn}
+use Rattle.lucid.specs.Stages.{parameterAsked, optionAsked, Sized, Placed, Supplied}
 use Rattle.lucid.specs.declared.frame.Order.{Order}
 use Rattle.lucid.specs.declared.frame.Order.the-variants.{Refused, GetIo, SetIo, GetParam, SetParam, Reset}
 use Rattle.lucid.proofs.Bools.{or-right}
@@ -96,7 +97,7 @@ module _ (f : List ℕ) where
       (λ e. safe-parameter opc p1 p2 (record { known = known; channel = channel; measured = l ∙ ap (λ (n : ℕ). fieldAt + n) (eqb-true (lenIn f) (lenFor opc p1 p2) e) }) w))))
 
   pub safe : Safe f (asked f)
-  unfolding asked
+  unfolding asked optionAsked parameterAsked
   safe =
       or-refused (eqb (length f) (fieldAt + lenIn f)) _ _ _
       (λ l. or-refused (opcKnown (opcIn f)) _ _ _

@@ -15,14 +15,14 @@ use Rattle.wire.specs.Word.{minus, wordValues}
 use Rattle.card.specs.Numbers.{probeFault}
 use Rattle.card.specs.Layout.{Card, channels}
 use Rattle.card.specs.Probe.{faultCode, readingOf, tenthsOf}
-use Rattle.card.specs.Reply.{WordsReply, onWords, sent, shell, roomLeast, Keeps}
+use Rattle.card.specs.Reply.{WordsReply, onWords, sent, shell, roomLeast, Keeps, leaving}
 use Rattle.card.specs.declared.probe.Reading.the-variants.{Fault}
 use Rattle.card.proofs.Facts.{and-true}
 use Rattle.card.proofs.Replies.{shell-keeps}
 use Rattle.card.proofs.Sweep.{at}
 use Rattle.lucid.specs.Form.{fits, channelsFrom, channelsOf, demand}
 use Rattle.lucid.specs.Frame.{asked}
-use Rattle.lucid.specs.Answer.{Values, Held, Failed, joined, group, hundredthsOf, valueOf, read, faulted, answerTo, changed, leaving, obeyed, lucidWords, lucidReply, named, readsProbe, asksProbe}
+use Rattle.lucid.specs.Answer.{Values, Held, Failed, joined, group, hundredthsOf, valueOf, read, faulted, answerTo, changed, obeyed, lucidWords, lucidReply, named, readsProbe, asksProbe}
 use Rattle.lucid.specs.declared.frame.Order.{Order}
 use Rattle.lucid.specs.declared.frame.Order.the-variants.{Refused, GetIo, SetIo, GetParam, SetParam, Reset}
 use Rattle.lucid.proofs.Groups.{value-fault}

@@ -10,7 +10,8 @@ use lib.ListN.{length}
 use Rattle.wire.specs.Choose.{choose}
 use Rattle.card.specs.Layout.{channels}
 use Rattle.lucid.specs.Form.{fieldAt, addressSize, parameterSize, getIo, setIo, setParam, getParam}
-use Rattle.lucid.specs.Frame.{isGet, isSet, isGroup, isParam, isReset, hasAddress, hasValue, lenFor, Sized}
+use Rattle.lucid.specs.Frame.{isGet, isSet, isGroup, isParam, isReset, hasAddress, hasValue, lenFor}
+use Rattle.lucid.specs.Stages.{Sized}
 use Rattle.lucid.proofs.Bools.{or-left, or-right, or-false, but, both-but}
 
 len-set : (p1 p2 : ℕ) → isReset setParam p2 ≡ false → lenFor setParam p1 p2 ≡ addressSize + parameterSize

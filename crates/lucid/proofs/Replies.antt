@@ -7,10 +7,10 @@ use lib.ListN.{length}
 use Rattle.wire.proofs.Cases.{yes, no}
 use Rattle.wire.proofs.Buffers.{overlay-none}
 use Rattle.card.specs.Numbers.{frameForm}
-use Rattle.card.specs.Reply.{WordsReply, GaveWords}
+use Rattle.card.specs.Reply.{WordsReply, GaveWords, Answer, Told}
 use Rattle.lucid.specs.Form.{fits}
 use Rattle.lucid.specs.Frame.{asked}
-use Rattle.lucid.specs.Answer.{Answer, Told, answerTo, changed, lucidWords}
+use Rattle.lucid.specs.Answer.{answerTo, changed, lucidWords}
 
 -- an answer known under another name
 pub told-as : {out out′ : List ℕ} {number len : ℕ} (a b : Answer) → a ≡ b → Told a out number len out′ → Told b out number len out′

@@ -8,9 +8,10 @@ use lib.ListN.{length, getD, set, take}
 use Rattle.wire.specs.Choose.{choose}
 use Rattle.wire.specs.Word.{wordValues}
 use Rattle.card.specs.Numbers.{answered, frameForm, probeFault}
-use Rattle.card.specs.Layout.{Card, demandsAt, parametersAt, keptAt}
+use Rattle.card.specs.Layout.{Card, demandsAt, parametersEach, parametersAt, keptAt}
+use Rattle.card.specs.Tables.{cycleDefault, floorDefault}
 use Rattle.card.specs.Probe.{readingOf}
-use Rattle.card.specs.Reply.{Reply, WordsReply, Wrote, onWords, roomLeast, shell}
+use Rattle.card.specs.Reply.{Reply, WordsReply, Answer, onWords, leaving, roomLeast, shell}
 use Rattle.card.specs.declared.probe.Tenths.{Tenths}
 use Rattle.card.specs.declared.probe.Reading.{Reading}
 use Rattle.card.specs.declared.probe.Reading.the-variants.{Temperature, Fault}
@@ -36,9 +37,13 @@ unfoldable pub group : (ℕ → Values) → List ℕ → Values
 group value [] = Held []
 group value (k ∷ ks) = joined (value k) (group value ks)
 
+-- hundredths of a degree for each tenth
+abbrev pub hundredthsPerTenth : ℕ
+hundredthsPerTenth = 10
+
 -- hundredths of a degree are ten times the tenths, as a word
 unfoldable pub hundredthsOf : Tenths → Hundredths
-hundredthsOf t = record { 0 = 10 * t .0 % wordValues }
+hundredthsOf t = record { 0 = hundredthsPerTenth * t .0 % wordValues }
 
 -- a temperature in type 40h, else 41h
 unfoldable pub temperatureIn : ℕ → Tenths → List ℕ
@@ -53,11 +58,6 @@ readingIn kind Fault = Failed
 unfoldable pub valueOf : List ℕ → List ℕ → ℕ → ℕ → Values
 valueOf ws memory kind channel =
     choose (eqb kind demand) (Held (little demandSize (getD ws (demandsAt + channel) 0))) (readingIn kind (readingOf (getD memory channel 0)))
-
--- a number and its wire bytes
-pub record Answer : Type 0 where
-  pub number : ℕ
-  pub bytes : List ℕ
 
 -- "answer: status, LEN, data"
 abbrev pub told : ℕ → ℕ → List ℕ → Answer
@@ -99,16 +99,9 @@ unfoldable pub stored : ℕ → Bool → ℕ → List ℕ → List ℕ
 stored place saved value ws =
     choose saved (set (set ws (parametersAt + place) value) (keptAt + place) value) (set ws (parametersAt + place) value)
 
--- the defaults of 1110h and 1120h
-abbrev pub cycleDefault : ℕ
-cycleDefault = 1000000
-
-abbrev pub floorDefault : ℕ
-floorDefault = 0
-
 -- "Option 01h .. resets both parameters of the channel"
 unfoldable pub reset : ℕ → Bool → List ℕ → List ℕ
-reset channel saved ws = stored (2 * channel + 1) saved floorDefault (stored (2 * channel) saved cycleDefault ws)
+reset channel saved ws = stored (parametersEach * channel + 1) saved floorDefault (stored (parametersEach * channel) saved cycleDefault ws)
 
 -- what the words become by an order
 unfoldable pub changed : List ℕ → List ℕ → Order → List ℕ
@@ -118,10 +111,6 @@ changed ws f (SetIo mask) = demanded (channelsOf mask) f fieldAt ws
 changed ws f (GetParam place) = ws
 changed ws f (SetParam place saved value) = stored place saved value ws
 changed ws f (Reset channel saved) = reset channel saved ws
-
--- an answer, and the words as they then stand
-abbrev pub leaving : List ℕ → Answer → WordsReply
-leaving ws answer = record { number = answer .number; bytes = answer .bytes; words = ws }
 
 -- what the card does with an order
 abbrev pub obeyed : List ℕ → List ℕ → List ℕ → Order → WordsReply
@@ -157,8 +146,3 @@ asksProbe f channel = fits (length f) && readsProbe (asked f) channel
 pub record Grew (bytes values : List ℕ) (n len : ℕ) (values′ : List ℕ) : Type 0 where
   pub counted : len ≡ n + length bytes
   pub held : take len values′ ≡ take n values ++ bytes
-
--- an answer was given: the number, its length and the whole answer buffer
-pub record Told (answer : Answer) (out : List ℕ) (number len : ℕ) (out′ : List ℕ) : Type 0 where
-  pub numbered : number ≡ answer .number
-  pub wrote : Wrote (answer .bytes) out len out′

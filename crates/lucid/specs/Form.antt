@@ -1,5 +1,5 @@
 -- The form of a LucidControl frame: OPC, P1, P2, LEN, data. Document 01, "LucidControl"; names by source document 002.
-use Prim.Native.Nat.{ℕ, zero, suc, _+_, _*_, _/_, _%_}
+use Prim.Native.Nat.{ℕ, zero, suc, _+_, _-_, _*_, _/_, _%_}
 use mathlib.Core.Bool.{Bool, _&&_}
 use mathlib.Core.List.{List, [], _∷_}
 use lib.Dec.{leb, eqb}
@@ -86,6 +86,10 @@ tenthsSize = 2
 abbrev pub hundredthsSize : ℕ
 hundredthsSize = 4
 
+-- the most bytes of data that an answer has: four channels in type 41h
+abbrev pub valuesMost : ℕ
+valuesMost = channels * hundredthsSize
+
 unfoldable pub sizeOf : ℕ → ℕ
 sizeOf kind = choose (eqb kind demand) demandSize (choose (eqb kind tenths) tenthsSize hundredthsSize)
 
@@ -97,7 +101,7 @@ abbrev pub persistent : ℕ
 persistent = 0x80
 
 abbrev pub otherBits : ℕ
-otherBits = 0x7E
+otherBits = 0xFF - (default + persistent)
 
 -- the data of SetParam and GetParam: an address, and a value after it
 abbrev pub cycleAddress : ℕ
@@ -147,6 +151,10 @@ errExecution = 0xD0
 unfoldable pub little : ℕ → ℕ → List ℕ
 little zero x = []
 little (suc n) x = x % byteValues ∷ little n (x / byteValues)
+
+-- how many bytes an address, a demand or half a value has
+abbrev pub pairSize : ℕ
+pairSize = 2
 
 -- the number that n bytes from an index on are, lowest first
 unfoldable pub numberAt : ℕ → List ℕ → ℕ → ℕ

@@ -1,8 +1,6 @@
--- What a LucidControl frame asks, in the order of document 01, "LucidControl": a line of an order is a test, and the number and the
--- status if it fails. A test that a command has no use for passes. The last of the order, the fault, is found in answering.
-use Prim.{Unit}
-use Prim.Native.Nat.{ℕ, _+_, _*_, _^_, _<_}
-use mathlib.Core.Path.{_≡_}
+-- What a LucidControl frame asks: document 01, "LucidControl", "Order". A line of `asked` is a test, and the number and the status if it
+-- fails. A test that a command has no use for passes.
+use Prim.Native.Nat.{ℕ, _+_, _*_, _^_}
 use mathlib.Core.Bool.{Bool, true, _&&_, _||_, not}
 use mathlib.Core.List.{List}
 use lib.Bits.{bitAnd}
@@ -10,7 +8,7 @@ use lib.Dec.{leb, ltb, eqb}
 use lib.ListN.{length, getD}
 use Rattle.wire.specs.Choose.{choose}
 use Rattle.card.specs.Numbers.{frameForm, commandUnknown, rangeUnknown, valueOutside, readOnly}
-use Rattle.card.specs.Layout.{channels, parameterCount}
+use Rattle.card.specs.Layout.{channels, parametersEach}
 use Rattle.card.specs.Tables.{inSpan, cycleLeast, cycleMost, floorMost}
 use Rattle.lucid.specs.Form.{
   opcAt,
@@ -27,7 +25,6 @@ use Rattle.lucid.specs.Form.{
   maskMost,
   channelsOf,
   demand,
-  demandSize,
   tenths,
   hundredths,
   sizeOf,
@@ -156,7 +153,7 @@ valueRight opc p2 f = choose (hasValue opc p2) (inRange (addressIn f) (valueIn f
 
 -- a parameter's place among the card's: channel by channel, 1110h first
 unfoldable pub placeOf : ℕ → ℕ → ℕ
-placeOf channel address = choose (eqb address cycleAddress) (2 * channel) (2 * channel + 1)
+placeOf channel address = choose (eqb address cycleAddress) (parametersEach * channel) (parametersEach * channel + 1)
 
 -- what a frame that passed every test asks
 unfoldable pub orderedParameter : ℕ → ℕ → ℕ → List ℕ → Order
@@ -171,52 +168,22 @@ ordered opc p1 p2 f =
     (choose (isReset opc p2) (Reset p1 (saves p2))
     (orderedParameter opc p1 p2 f)))
 
--- "parameter address (6, BAh); value (7, C0h)"
-unfoldable pub parameterAsked : ℕ → ℕ → ℕ → List ℕ → Order
-parameterAsked opc p1 p2 f =
-    unless (addressKnown opc p2 f) rangeUnknown invParam
-    (unless (valueRight opc p2 f) valueOutside invData
-    (ordered opc p1 p2 f))
-
--- "type unknown (7, B6h), probe written (8, B6h), option .. (7, B4h); LEN for the command (3, B0h)"
-unfoldable pub optionAsked : ℕ → ℕ → ℕ → List ℕ → Order
-optionAsked opc p1 p2 f =
-    unless (typeKnown opc p2) valueOutside invValue
+-- what a frame asks, if its length is that of a frame. "Order: LEN against slice (3, B0h); OPC (5, A0h); channel above 3 (6, B8h) or mask 0 or
+-- above 0Fh (6, B2h); type unknown (7, B6h), probe written (8, B6h), option other than bits 01h and 80h, or nonzero in GetParam (7, B4h);
+-- LEN for the command (3, B0h); parameter address (6, BAh); value (7, C0h); fault (9, D0h)": the fault is found in answering
+unfoldable pub asked : List ℕ → Order
+asked f =
+    let opc = opcIn f in
+    let p1 = p1In f in
+    let p2 = p2In f in
+    unless (eqb (length f) (fieldAt + lenIn f)) frameForm invLength
+    (unless (opcKnown opc) commandUnknown noSupport
+    (unless (channelRight opc p1) rangeUnknown invChannel
+    (unless (maskRight opc p1) rangeUnknown invP1
+    (unless (typeKnown opc p2) valueOutside invValue
     (unless (typeWritable opc p2) readOnly invValue
     (unless (optionRight opc p2) valueOutside invP2
     (unless (eqb (lenIn f) (lenFor opc p1 p2)) frameForm invLength
-    (parameterAsked opc p1 p2 f))))
-
--- what a frame asks, if its length is that of a frame.
--- "LEN against slice (3, B0h); OPC (5, A0h); channel above 3 (6, B8h) or mask 0 or above 0Fh (6, B2h)"
-unfoldable pub asked : List ℕ → Order
-asked f =
-    unless (eqb (length f) (fieldAt + lenIn f)) frameForm invLength
-    (unless (opcKnown (opcIn f)) commandUnknown noSupport
-    (unless (channelRight (opcIn f) (p1In f)) rangeUnknown invChannel
-    (unless (maskRight (opcIn f) (p1In f)) rangeUnknown invP1
-    (optionAsked (opcIn f) (p1In f) (p2In f) f))))
-
--- what is known of a frame once its LEN was found right for its command
-pub record Sized (opc p1 p2 : ℕ) (f : List ℕ) : Type 0 where
-  pub known : opcKnown opc ≡ true
-  pub channel : channelRight opc p1 ≡ true
-  pub measured : length f ≡ fieldAt + lenFor opc p1 p2
-
--- what is known of an order that a frame asks: the places that it names are the card's
-abbrev pub Placed : Order → Type 0
-Placed (Refused number status) = Unit {0}
-Placed (GetIo kind mask) = Unit {0}
-Placed (SetIo mask) = Unit {0}
-Placed (GetParam place) = place < parameterCount
-Placed (SetParam place saved value) = place < parameterCount
-Placed (Reset channel saved) = channel < channels
-
--- and SetIo has two bytes of data for each channel
-abbrev pub Supplied : List ℕ → Order → Type 0
-Supplied f (Refused number status) = Unit {0}
-Supplied f (GetIo kind mask) = Unit {0}
-Supplied f (SetIo mask) = length f ≡ fieldAt + demandSize * length (channelsOf mask)
-Supplied f (GetParam place) = Unit {0}
-Supplied f (SetParam place saved value) = Unit {0}
-Supplied f (Reset channel saved) = Unit {0}
+    (unless (addressKnown opc p2 f) rangeUnknown invParam
+    (unless (valueRight opc p2 f) valueOutside invData
+    (ordered opc p1 p2 f))))))))))

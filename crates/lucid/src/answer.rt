@@ -4,55 +4,55 @@ use crate::frame::Order;
 use crate::frame::order_of;
 use crate::frame::pair;
 use card::Outcome;
+use card::fitness::CYCLE_DEFAULT;
+use card::fitness::FLOOR_DEFAULT;
 use card::layout::CHANNELS;
 use card::layout::DEMANDS;
 use card::layout::KEPT;
 use card::layout::PARAMETERS;
+use card::layout::PARAMETERS_EACH;
 use card::numbers::ANSWERED;
 use card::numbers::FRAME_FORM;
 use card::numbers::PROBE_FAULT;
 use card::probe::Reading;
 use card::probe::Tenths;
 use card::probe::read_code;
+use wire::BYTE_VALUES;
 ghost use mathlib.Core.Path.{_≡_};
 ghost use Prim.Native.Nat.{_+_, _*_, _≤_, _<_};
-ghost use lib.ListN.{length, take, getD};
+ghost use lib.ListN.{length, take, getD, set};
 ghost use Rattle.card.specs.Numbers.{answered};
-ghost use Rattle.card.specs.Layout.{channels, parameterCount, parametersAt, wordCount, memorySize};
-ghost use Rattle.card.specs.Reply.{roomLeast, GaveWords};
-ghost use Rattle.lucid.specs.Form.{fieldAt, channelsOf, demandSize, tenthsSize, hundredthsSize, parameterSize, ok, little};
-ghost use Rattle.lucid.specs.Frame.{Placed, Supplied};
-ghost use Rattle.lucid.specs.Answer.{group, hundredthsOf, temperatureIn, valueOf, told, refused, read, answerTo, demanded, stored, reset, changed, lucidWords, Grew, Told};
+ghost use Rattle.card.specs.Layout.{channels, demandsAt, parameterCount, parametersAt, wordCount, memorySize};
+ghost use Rattle.card.specs.Reply.{roomLeast, GaveWords, Told};
+ghost use Rattle.lucid.specs.Form.{fieldAt, channelsOf, demandSize, tenthsSize, hundredthsSize, parameterSize, valuesMost, ok, little};
+ghost use Rattle.lucid.specs.Stages.{Placed, Supplied};
+ghost use Rattle.lucid.specs.Answer.{group, hundredthsOf, temperatureIn, valueOf, told, refused, read, answerTo, demanded, stored, reset, changed, lucidWords, Grew};
 
 // The most bytes of data that an answer has: four channels in type 41h.
-const VALUES: usize = 16;
+const VALUES: usize = CHANNELS * Lucid::HUNDREDTHS_SIZE as usize;
 
 const NO_VALUES: [u8; VALUES] = [0; VALUES];
-
-// The defaults of 1110h and 1120h. Document 01, "What the card holds".
-const CYCLE_DEFAULT: u32 = 1_000_000;
-
-const FLOOR_DEFAULT: u32 = 0;
 
 const WORD_VALUES: u64 = 0x1_0000_0000;
 
 const HUNDREDTHS_PER_TENTH: u64 = 10;
 
 // Hundredths of a degree, in two's complement.
-pub struct Hundredths(pub u32);
+struct Hundredths(u32);
 
 impl Hundredths {
     // The only way from tenths to hundredths.
     pub fn of(t: Tenths) -> Hundredths
         ensures { λ r. ⌜ r ≡ hundredthsOf t ⌝ }
     {
-        Hundredths((HUNDREDTHS_PER_TENTH * t.0 as u64 % WORD_VALUES) as u32)
+        let tenths = t.word() as u64;
+        Hundredths((HUNDREDTHS_PER_TENTH * tenths % WORD_VALUES) as u32)
     }
 }
 
 // Writes status, LEN and the first len bytes of values.
 fn respond(out: &mut [u8], number: u8, status: u8, values: &[u8], len: usize) -> Outcome
-    requires { ⌜ (len ≤ length (now values)) × ((length (now values) ≤ 16) × (roomLeast ≤ length (now out))) ⌝ }
+    requires { ⌜ (len ≤ length (now values)) × ((length (now values) ≤ valuesMost) × (roomLeast ≤ length (now out))) ⌝ }
     ensures { λ r. ⌜ Told (told number status (take len (now (values .entry)))) (now (out .entry)) (r .number) (r .len) (now (out .exit)) ⌝ }
 {
     out[0] = status;
@@ -72,8 +72,8 @@ fn put_little(word: u32, size: usize, values: &mut [u8], n: usize) -> usize
     let mut left = word;
     let mut i = 0;
     while i < size {
-        values[n + i] = (left % 256) as u8;
-        left = left / 256;
+        values[n + i] = (left % BYTE_VALUES) as u8;
+        left = left / BYTE_VALUES;
         i += 1;
     }
     n + size
@@ -93,7 +93,7 @@ fn put_tenths(t: Tenths, values: &mut [u8], n: usize) -> usize
     requires { ⌜ n + tenthsSize ≤ length (now values) ⌝ }
     ensures { λ r. ⌜ Grew (little tenthsSize (t .0)) (now (values .entry)) n r (now (values .exit)) ⌝ }
 {
-    put_little(t.0, Lucid::TENTHS_SIZE as usize, values, n)
+    put_little(t.word(), Lucid::TENTHS_SIZE as usize, values, n)
 }
 
 // A value of type 41h.
@@ -142,8 +142,16 @@ fn reset(words: &mut [u32], channel: usize, saved: bool)
     requires { ⌜ (length (now words) ≡ wordCount) × (channel < channels) ⌝ }
     ensures { λ _. ⌜ now (words .exit) ≡ reset channel saved (now (words .entry)) ⌝ }
 {
-    store(words, 2 * channel, saved, CYCLE_DEFAULT);
-    store(words, 2 * channel + 1, saved, FLOOR_DEFAULT);
+    store(words, PARAMETERS_EACH * channel, saved, CYCLE_DEFAULT);
+    store(words, PARAMETERS_EACH * channel + 1, saved, FLOOR_DEFAULT);
+}
+
+// Sets the demand of a channel.
+fn set_demand(words: &mut [u32], channel: usize, demand: u32)
+    requires { ⌜ (length (now words) ≡ wordCount) × (channel < channels) ⌝ }
+    ensures { λ _. ⌜ now (words .exit) ≡ set (now (words .entry)) (demandsAt + channel) demand ⌝ }
+{
+    words[DEMANDS + channel] = demand;
 }
 
 // Sets the demands of the channels that a mask names, lowest first.
@@ -156,7 +164,8 @@ fn set_demands(words: &mut [u32], mask: u8, f: &[u8])
     let mut channel = 0;
     while channel < CHANNELS {
         if left % 2 == 1 {
-            words[DEMANDS + channel] = pair(f, at);
+            let demand = pair(f, at);
+            set_demand(words, channel, demand);
             at += Lucid::DEMAND_SIZE as usize;
         }
         left = left / 2;

@@ -1,7 +1,7 @@
 // The form of a LucidControl frame: OPC, P1, P2, LEN, data. Document 01, "LucidControl"; names by source document 002.
 ghost use mathlib.Core.Path.{_≡_};
 ghost use Prim.Native.Nat.{_≤_};
-ghost use Rattle.lucid.specs.Form.{fits, sizeOf};
+ghost use Rattle.lucid.specs.Form.{fits, hundredthsSize, sizeOf};
 
 pub struct Lucid {}
 
@@ -53,7 +53,7 @@ impl Lucid {
 
     pub const PERSISTENT: u8 = 0x80;
 
-    pub const OTHER_BITS: u8 = 0x7E;
+    pub const OTHER_BITS: u8 = 0xFF - (Lucid::DEFAULT + Lucid::PERSISTENT);
     // The data of SetParam and GetParam: an address, and a value after it.
     pub const CYCLE: u32 = 0x1110;
 
@@ -92,7 +92,7 @@ impl Lucid {
 
     // How many bytes a value of a type has.
     pub fn size(kind: u8) -> u8
-        ensures { λ r. ⌜ (r ≡ sizeOf kind) × (r ≤ 4) ⌝ }
+        ensures { λ r. ⌜ (r ≡ sizeOf kind) × (r ≤ hundredthsSize) ⌝ }
     {
         if kind == Lucid::DEMAND {
             return Lucid::DEMAND_SIZE;

@@ -6,21 +6,33 @@ use card::fitness::FLOOR_MOST;
 use card::fitness::address;
 use card::fitness::in_span;
 use card::layout::CHANNELS;
+use card::layout::PARAMETERS_EACH;
 use card::numbers::COMMAND_UNKNOWN;
 use card::numbers::FRAME_FORM;
 use card::numbers::RANGE_UNKNOWN;
 use card::numbers::READ_ONLY;
 use card::numbers::VALUE_OUTSIDE;
+use wire::BYTE_VALUES;
 ghost use mathlib.Core.Path.{_≡_};
 ghost use mathlib.Core.Bool.{true};
-ghost use Prim.Native.Nat.{_+_, _<_, _≤_};
+ghost use Prim.Native.Nat.{_+_, _*_, _<_, _≤_};
 ghost use lib.ListN.{length};
+ghost use Rattle.wire.specs.Sum.{byteValues};
 ghost use Rattle.card.specs.Layout.{channels};
-ghost use Rattle.lucid.specs.Form.{channelsOf, numberAt, fieldAt, addressSize, parameterSize, shortest, getParam};
-ghost use Rattle.lucid.specs.Frame.{isGet, isSet, isGroup, isParam, isReset, saves, opcKnown, channelRight, maskRight, typeKnown, typeWritable, optionRight, maskOf, lenFor, hasAddress, hasValue, valueIn, addressKnown, inRange, valueRight, placeOf, orderedParameter, ordered, parameterAsked, optionAsked, asked, lenIn, Sized};
+ghost use Rattle.lucid.specs.Form.{channelsOf, pairSize, numberAt, fieldAt, addressSize, parameterSize, shortest, getParam};
+ghost use Rattle.lucid.specs.Frame.{isGet, isSet, isGroup, isParam, isReset, saves, opcKnown, channelRight, maskRight, typeKnown, typeWritable, optionRight, maskOf, lenFor, hasAddress, hasValue, valueIn, addressKnown, inRange, valueRight, placeOf, orderedParameter, ordered, asked, lenIn};
+ghost use Rattle.lucid.specs.Stages.{parameterAsked, optionAsked, Sized};
 
 // Where the value of SetParam stands.
 const VALUE: usize = Lucid::DATA + Lucid::ADDRESS_SIZE as usize;
+
+// A number of two bytes: its bytes, and how many values it has.
+const PAIR: usize = 2;
+
+const PAIR_VALUES: u32 = BYTE_VALUES * BYTE_VALUES;
+
+// A channel's parameters.
+const EACH: u8 = PARAMETERS_EACH as u8;
 
 pub enum Order {
     // The number and the status.
@@ -171,7 +183,7 @@ fn has_value(opc: u8, p2: u8) -> bool
 // The number that two bytes are, low byte first.
 pub(crate) fn pair(f: &[u8], at: usize) -> u32
     requires { ⌜ at + 1 < length (now f) ⌝ }
-    ensures { λ r. ⌜ (r ≡ numberAt 2 (now (f .entry)) at) × (r < 65536) ⌝ }
+    ensures { λ r. ⌜ (r ≡ numberAt pairSize (now (f .entry)) at) × (r < byteValues * byteValues) ⌝ }
 {
     let low = f[at];
     let high = f[at + 1];
@@ -183,7 +195,7 @@ fn value_in(f: &[u8]) -> u32
     requires { ⌜ fieldAt + addressSize + parameterSize ≤ length (now f) ⌝ }
     ensures { λ r. ⌜ r ≡ valueIn (now (f .entry)) ⌝ }
 {
-    pair(f, VALUE) + 65536 * pair(f, VALUE + 2)
+    pair(f, VALUE) + PAIR_VALUES * pair(f, VALUE + PAIR)
 }
 
 fn address_known(opc: u8, p2: u8, f: &[u8]) -> bool
@@ -222,9 +234,9 @@ fn place_of(channel: u8, address: u32) -> u8
     ensures { λ r. ⌜ r ≡ placeOf channel address ⌝ }
 {
     if address == Lucid::CYCLE {
-        return 2 * channel;
+        return EACH * channel;
     }
-    2 * channel + 1
+    EACH * channel + 1
 }
 
 // What SetParam and GetParam ask, if they passed every test and reset nothing.

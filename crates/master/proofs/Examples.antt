@@ -8,9 +8,10 @@ use Rattle.wire.specs.Choose.{choose}
 use Rattle.wire.specs.Sum.{total, sumOf}
 use Rattle.datalink.specs.Frame.{framed}
 use Rattle.datalink.specs.Answer.{response}
+use Rattle.wire.specs.Buffer.{same}
 use Rattle.master.specs.Request.{Ask, askable, asAsked}
 use Rattle.master.specs.Request.Ask.{bytes, bits}
-use Rattle.master.specs.Frames.{body, changeFrame, acknowledgeFrame, interrogateFrame, same, echo, isEcho, isResponse, allAsked, confirms}
+use Rattle.master.specs.Frames.{body, changeFrame, acknowledgeFrame, interrogateFrame, echo, isEcho, isResponse, allAsked, confirms}
 use Rattle.master.specs.Step.{Move, sends, ends, move, stepOf}
 use Rattle.master.specs.declared.Phase.{Phase}
 use Rattle.master.specs.declared.Phase.the-variants.{New, Changing, Acknowledging, Reading, EndedDone, EndedUnknown}

@@ -9,7 +9,7 @@ use borrow.Author.Tests.{eq-eqb, eqb-true, eqb-false}
 use lib.Dec.{eqb, lit≤}
 use lib.ListN.{length, getD, take, drop, set, length-append, length-take, length-drop, drop-of-length-le}
 use lib.Seq.{take-append-seam, drop-cons}
-use Rattle.wire.specs.Buffer.{overlay}
+use Rattle.wire.specs.Buffer.{overlay, same}
 use Rattle.wire.specs.Sum.{sumOf}
 use Rattle.wire.proofs.Buffers.{overlay-set}
 use Rattle.card.specs.Layout.{dataMost}
@@ -21,7 +21,7 @@ use Rattle.datalink.proofs.Responses.{framed-length}
 use Rattle.master.specs.Request.{Ask, Request, requestOf, namedBy, namedMost, paired, asAsked}
 use Rattle.master.specs.Request.Ask.{bytes, bits}
 use Rattle.master.specs.Accepted.{Accepted}
-use Rattle.master.specs.Frames.{pairs, dataOf, commandOf, body, changeBody, same, shownIn, isResponse, allAsked}
+use Rattle.master.specs.Frames.{pairs, dataOf, commandOf, body, changeBody, shownIn, isResponse, allAsked}
 use Rattle.master.specs.declared.request.Kind.{Kind}
 use Rattle.master.specs.declared.request.Kind.the-variants.{Bytes, Bits}
 

@@ -1,10 +1,10 @@
 -- The frames that the line master sends, and the answers that it takes: "each in the form above and to the request's I.A."
 use Prim.Native.Nat.{ℕ, zero, suc, _+_, _%_, _/_}
-use mathlib.Core.Bool.{Bool, true, false, _&&_}
+use mathlib.Core.Bool.{Bool, true, _&&_}
 use mathlib.Core.List.{List, [], _∷_}
 use lib.Dec.{eqb}
 use lib.ListN.{length, getD}
-use Rattle.wire.specs.Buffer.{part}
+use Rattle.wire.specs.Buffer.{part, same}
 use Rattle.wire.specs.Sum.{byteValues}
 use Rattle.datalink.specs.Frame.{start, framed, dataPlace, interrogateBits, changeBitsBits, changeCommandBits, acknowledgeBits}
 use Rattle.datalink.specs.Answer.{response}
@@ -45,13 +45,6 @@ acknowledgeFrame q = start ∷ (acknowledgeBits + q .ia) ∷ []
 -- "an interrogate of the bytes named"
 unfoldable pub interrogateFrame : Request → List ℕ
 interrogateFrame q = framed (interrogateBits + q .ia) (body (namedBy (q .ask)) (q .address) [])
-
--- two lists of bytes are the same
-unfoldable pub same : List ℕ → List ℕ → Bool
-same [] [] = true
-same [] (y ∷ ys) = false
-same (x ∷ xs) [] = false
-same (x ∷ xs) (y ∷ ys) = eqb x y && same xs ys
 
 -- an exact echo: the response "with the NUM, address and data received"
 unfoldable pub echo : Request → List ℕ

@@ -51,7 +51,7 @@ abbrev pub addressMost : ℕ
 addressMost = 65535
 
 abbrev pub addressEnd : ℕ
-addressEnd = 65536
+addressEnd = addressMost + 1
 
 -- a request that 7 does not refuse: "7 exactly if I.A. exceeds 31, bytes exceed 32 (16 for bits), masks and states differ in number, the address exceeds 65,535, or address plus bytes exceeds 65,536"
 unfoldable pub askable : Request → Bool

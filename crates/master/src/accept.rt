@@ -11,7 +11,7 @@ ghost use Rattle.master.specs.Request.{askOf, requestOf, namedMost, pair
 // Document 01, "Datalink": the largest address, and the largest sum of address and bytes.
 const ADDRESS_MOST: u32 = 65_535;
 
-const ADDRESS_END: u32 = 65_536;
+const ADDRESS_END: u32 = ADDRESS_MOST + 1;
 
 // How many bytes a request may name.
 fn named_most(kind: Kind, sent: &[u8], states: &[u8]) -> usize

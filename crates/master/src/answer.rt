@@ -7,9 +7,10 @@ ghost use mathlib.Core.Path.{_≡_};
 ghost use mathlib.Core.Bool.{true};
 ghost use Prim.Native.Nat.{_≤_};
 ghost use lib.ListN.{length};
+ghost use Rattle.wire.specs.Buffer.{same};
 ghost use Rattle.master.specs.Request.{askOf, requestOf, paired};
 ghost use Rattle.master.specs.Accepted.{Accepted};
-ghost use Rattle.master.specs.Frames.{same, isEcho, isResponse, allAsked, confirms};
+ghost use Rattle.master.specs.Frames.{isEcho, isResponse, allAsked, confirms};
 
 // Whether two slices hold the same bytes.
 fn is_same(a: &[u8], b: &[u8]) -> bool

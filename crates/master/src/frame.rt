@@ -3,6 +3,7 @@ use crate::request::Kind;
 use card::layout::DATA_MOST;
 use datalink::form::Datalink;
 use datalink::write::write_frame;
+use wire::BYTE_VALUES;
 ghost use mathlib.Core.Path.{_≡_};
 ghost use mathlib.Core.List.{[], _∷_};
 ghost use Prim.Native.Nat.{_+_, _≤_};
@@ -21,7 +22,11 @@ pub fn write(out: &mut [u8], second: u8, num: usize, address: u32, bytes: &[u8])
     requires { ⌜ ((num ≤ dataMost) × (address ≤ addressMost)) × ((length (now bytes) ≤ dataMost) × (longest ≤ length (now out))) ⌝ }
     ensures { λ r. ⌜ Wrote (framed second (body num address (now (bytes .entry)))) (now (out .entry)) r (now (out .exit)) ⌝ }
 {
-    let head = [num as u8, (address % 256) as u8, (address / 256) as u8];
+    let head = [
+        num as u8,
+        (address % BYTE_VALUES) as u8,
+        (address / BYTE_VALUES) as u8,
+    ];
     write_frame(out, second, &head, bytes)
 }
 

@@ -28,8 +28,8 @@ use lines::line;
 use lines::line::Number;
 use lines::text;
 use lines::text::SPACE;
+use wire::BYTE_VALUES;
 ghost use mathlib.Core.Path.{_≡_};
-ghost use mathlib.Core.Bool.{true};
 ghost use Prim.Native.Nat.{_+_, _≤_, _<_};
 ghost use lib.ListN.{length};
 ghost use Rattle.card.specs.Layout.{wordCount, pendingSize};
@@ -72,62 +72,26 @@ const KEPT_TABLE: usize = 9;
 
 const PENDING_TABLE: usize = 10;
 
-// A run of entries.
-struct Span {
-    first: usize,
-    count: usize,
-}
+// A run of entries: the first, and how many.
+struct Span(usize, usize);
 
 // The table of a name's number; a number that no name has gives no entries.
 fn span_of(number: usize) -> Span
-    ensures { λ r. ⌜ Tabled (r .first) (r .count) ⌝ }
+    ensures { λ r. ⌜ Tabled (r .0) (r .1) ⌝ }
 {
     match number {
-        ADDRESS_TABLE => Span {
-            first: IA,
-            count: LOVE,
-        },
-        PROBE_TABLE => Span {
-            first: WORDS,
-            count: CHANNELS,
-        },
-        MEMORY_TABLE => Span {
-            first: WORDS,
-            count: MEMORY,
-        },
-        BUFFER_TABLE => Span {
-            first: BUFFER,
-            count: REGISTERS,
-        },
-        OPERATIONAL_TABLE => Span {
-            first: OPERATIONAL,
-            count: REGISTERS,
-        },
-        SAVED_TABLE => Span {
-            first: SAVED,
-            count: REGISTERS,
-        },
-        LOVE_TABLE => Span {
-            first: LOVE,
-            count: LOVE_COUNT,
-        },
-        DEMAND_TABLE => Span {
-            first: DEMANDS,
-            count: CHANNELS,
-        },
-        PARAMETER_TABLE => Span {
-            first: PARAMETERS,
-            count: PARAMETER_COUNT,
-        },
-        KEPT_TABLE => Span {
-            first: KEPT,
-            count: PARAMETER_COUNT,
-        },
-        PENDING_TABLE => Span {
-            first: CHANGE_FROM,
-            count: CHANGE_DATA + DATA_MOST,
-        },
-        _ => Span { first: 0, count: 0 },
+        ADDRESS_TABLE => Span(IA, LOVE),
+        PROBE_TABLE => Span(WORDS, CHANNELS),
+        MEMORY_TABLE => Span(WORDS, MEMORY),
+        BUFFER_TABLE => Span(BUFFER, REGISTERS),
+        OPERATIONAL_TABLE => Span(OPERATIONAL, REGISTERS),
+        SAVED_TABLE => Span(SAVED, REGISTERS),
+        LOVE_TABLE => Span(LOVE, LOVE_COUNT),
+        DEMAND_TABLE => Span(DEMANDS, CHANNELS),
+        PARAMETER_TABLE => Span(PARAMETERS, PARAMETER_COUNT),
+        KEPT_TABLE => Span(KEPT, PARAMETER_COUNT),
+        PENDING_TABLE => Span(CHANGE_FROM, CHANGE_DATA + DATA_MOST),
+        _ => Span(0, 0),
     }
 }
 
@@ -150,8 +114,8 @@ fn read_table(s: &[u8], at: usize) -> Table
     );
     let t = span_of(name.number);
     Table {
-        first: t.first,
-        count: t.count,
+        first: t.0,
+        count: t.1,
         next: name.next,
     }
 }
@@ -233,8 +197,8 @@ fn store_change(pending: &mut [u8], place: usize, value: u32)
     requires { ⌜ (place < pendingCount) × ((length (now pending) ≡ pendingSize) × (value ≤ mostOf (pendingFrom + place))) ⌝ }
 {
     if place == CHANGE_ADDRESS {
-        pending[LOW_ADDRESS] = (value % 256) as u8;
-        pending[HIGH_ADDRESS] = (value / 256) as u8;
+        pending[LOW_ADDRESS] = (value % BYTE_VALUES) as u8;
+        pending[HIGH_ADDRESS] = (value / BYTE_VALUES) as u8;
         return;
     }
     let i = index(place);

@@ -1,4 +1,5 @@
 // The card that the console starts with.
+use card::fitness::CYCLE_DEFAULT;
 use card::fitness::DEMAND_MOST;
 use card::layout::DEMANDS;
 use card::layout::IA;
@@ -10,7 +11,7 @@ use card::probe::FAULT_CODE;
 ghost use mathlib.Core.Path.{_≡_};
 ghost use lib.ListN.{replicate};
 ghost use Rattle.card.specs.Layout.{wordCount, memorySize};
-ghost use Rattle.tables.specs.Start.{startWords, startMemory};
+ghost use Rattle.card.specs.Start.{startWords, startMemory};
 
 // The addresses.
 const START_IA: u32 = 3;
@@ -18,9 +19,6 @@ const START_IA: u32 = 3;
 const START_LECOM: u32 = 11;
 
 const START_LOVE: u32 = 0x32;
-
-// LucidControl's default of 1110h; that of 1120h is zero.
-const CYCLE_DEFAULT: u32 = 1_000_000;
 
 // The words, from zeros.
 pub fn start_words(words: &mut [u32])

@@ -5,12 +5,15 @@ use lines::UNREAD;
 use lines::line;
 use lines::text;
 use master::Phase;
+use master::Verdict;
 use master::request::Kind;
 ghost use mathlib.Core.Path.{_≡_};
-ghost use Prim.Native.Nat.{_≤_, _<_};
-ghost use lib.ListN.{length};
+ghost use Prim.Native.Nat.{_+_, _≤_, _<_};
+ghost use lib.ListN.{length, take};
 ghost use Rattle.lines.specs.Lent.{lineMost, bytesMost, answerMost, roomMost, Asked};
+ghost use Rattle.lines.specs.Text.{Put};
 ghost use Rattle.terminal.specs.Held.{Held, Answered};
+ghost use Rattle.terminal.specs.Stepped.{verdictMost, verdictOf, stepped, steppedMost};
 
 // A request and how far its exchange went. The bytes asked for, or the masks, stand at the front of a lent buffer, states from its middle on.
 pub struct Exchange {
@@ -130,6 +133,28 @@ pub fn request(e: Exchange, s: &[u8], at: usize, asked: &mut [u8], out: &mut [u8
     Answer { len, exchange: new }
 }
 
+// What the master says, after a space.
+fn put_verdict(out: &mut [u8], at: usize, verdict: Verdict) -> usize
+    requires { ⌜ at + verdictMost ≤ length (now out) ⌝ }
+    ensures { λ r. ⌜ Put verdictMost at (verdictOf verdict) (now (out .entry)) r (now (out .exit)) ⌝ }
+{
+    match verdict {
+        Verdict::Open => text::put_words(out, at, b" open"),
+        Verdict::Done => text::put_words(out, at, b" done"),
+        Verdict::Unknown => text::put_words(out, at, b" unknown"),
+    }
+}
+
+// The line of a master's step, with the first len bytes of frame.
+fn tell_step(out: &mut [u8], number: u8, verdict: Verdict, frame: &[u8], len: usize) -> usize
+    requires { ⌜ ((len ≤ length (now frame)) × (length (now frame) ≤ roomMost)) × (steppedMost ≤ length (now out)) ⌝ }
+    ensures { λ r. ⌜ Put steppedMost 0 (stepped number verdict (take len (now (frame .entry)))) (now (out .entry)) r (now (out .exit)) ⌝ }
+{
+    let at = text::put_number(out, 0, number as u32);
+    let said = put_verdict(out, at, verdict);
+    text::put_bytes(out, said, &frame[..len])
+}
+
 // A step that could be read, with what was heard and the room for a frame.
 fn take_step(e: Exchange, asked: &[u8], heard: &[u8], frame: &mut [u8], out: &mut [u8]) -> Answer
     requires { ⌜ (Held (e .sent) (e .states) × (length (now asked) ≡ lineMost)) × ((length (now frame) ≤ roomMost) × (answerMost ≤ length (now out))) ⌝ }
@@ -150,7 +175,7 @@ fn take_step(e: Exchange, asked: &[u8], heard: &[u8], frame: &mut [u8], out: &mu
         frame,
     );
     let next = went.phase;
-    let len = text::tell_step(out, went.number, master::says(next), frame, went.len);
+    let len = tell_step(out, went.number, master::says(next), frame, went.len);
     Answer {
         len,
         exchange: Exchange {

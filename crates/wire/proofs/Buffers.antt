@@ -1,12 +1,12 @@
--- Laws of specs/Buffer.antt: an answer grows at its end. Assumes nothing.
+-- Laws of specs/Buffer.antt: an answer grows at its end, and what a change leaves before it and after it. Assumes nothing.
 use mathlib.Core.Path.{_≡_, refl, sym, ap, _∙_}
 use mathlib.Core.List.{List, [], _∷_, _++_, append-assoc}
-use Prim.Native.Nat.{ℕ, suc, _+_, _-_, _≤_, _<_}
+use Prim.Native.Nat.{ℕ, zero, suc, _+_, _-_, _≤_, _<_}
 use native.Mathlib.Nat.{zero-add}
 use native.Mathlib.Numerals.{add-one}
 use native.Mathlib.Omega.{arith}
 use lib.ListN.{length, take, drop, set, getD, length-append, length-drop, length-take}
-use lib.Seq.{take-append-seam, drop-append-add, set-append-seam, drop-drop, drop-cons, take-add, take-all, sets, sets-eq, set-at, length-take-le}
+use lib.Seq.{take-append-seam, take-append-le, drop-append-add, set-append-seam, take-nil, take-take, drop-drop, drop-cons, take-add, take-all, take-set-lt, drop-set-add, getD-take, sets, sets-eq, set-at, drop-at, length-take-le}
 use Rattle.wire.specs.Buffer.{put, overlay, part}
 
 pub overlay-none : (out : List ℕ) → overlay [] out ≡ out
@@ -75,3 +75,52 @@ length-part s a e h k = simp (length-take, length-drop) (omega arith)
 -- a part to the end is what is left
 pub part-rest : (s : List ℕ) (a : ℕ) → part s a (length s) ≡ drop a s
 part-rest s a = take-all (length s - a) (drop a s) (rw length-drop (omega arith))
+
+-- a part of a list's front is that part of the list
+front-part : (a c n : ℕ) (s : List ℕ) → a + c ≤ n → take c (drop a (take n s)) ≡ take c (drop a s)
+front-part zero c n s h = take-take c n s (omega arith)
+front-part (suc a) c n [] h = ap (take c) (ap (drop (suc a)) (take-nil n))
+front-part (suc a) c zero (x ∷ s) h = let z : ⊥ = omega arith in absurd z
+front-part (suc a) c (suc n) (x ∷ s) h = front-part a c n s (omega arith)
+
+-- two lists with the same front, and with the same rest
+module _ (s t : List ℕ) (n : ℕ) where
+  pub getD-front : take n s ≡ take n t → (i : ℕ) → i < n → getD s i 0 ≡ getD t i 0
+  getD-front e i h = sym (getD-take n s i 0 h) ∙ ap (λ (l : List ℕ). getD l i 0) e ∙ getD-take n t i 0 h
+
+  pub part-front : take n s ≡ take n t → (a e : ℕ) → a ≤ e → e ≤ n → part s a e ≡ part t a e
+  part-front same a e h l =
+      sym (front-part a (e - a) n s (omega arith)) ∙ ap (λ (x : List ℕ). part x a e) same ∙ front-part a (e - a) n t (omega arith)
+
+  pub drop-back : drop n s ≡ drop n t → (a : ℕ) → n ≤ a → drop a s ≡ drop a t
+  drop-back same a h =
+      let m : n + (a - n) ≡ a = omega arith in
+      let e : drop (n + (a - n)) s ≡ drop (n + (a - n)) t = sym (drop-drop (a - n) n s) ∙ ap (drop (a - n)) same ∙ drop-drop (a - n) n t in
+      rw m at e
+
+  pub part-back : drop n s ≡ drop n t → (a e : ℕ) → n ≤ a → part s a e ≡ part t a e
+  part-back same a e h = ap (take (e - a)) (drop-back same a h)
+
+-- what stands before a list that was put, in its place and after it
+module _ (d : List ℕ) (at : ℕ) (s : List ℕ) (fits : at + length s ≤ length d) where
+  pub take-put : (n : ℕ) → n ≤ at → take n (put d at s) ≡ take n d
+  unfolding put
+  take-put n h =
+      let l : length (take at d) ≡ at = length-take-le at d (omega arith) in
+      take-append-le n (take at d) _ (omega arith) ∙ take-take n at d h
+
+  pub part-put : part (put d at s) at (at + length s) ≡ s
+  unfolding put
+  part-put =
+      let n : at + length s - at ≡ length s = omega arith in
+      rw (n, drop-at (take at d) (s ++ drop (at + length s) d) at (length-take-le at d (omega arith))) (take-append-seam s (drop (at + length s) d))
+
+  pub drop-put : (n : ℕ) → at + length s ≤ n → drop n (put d at s) ≡ drop n d
+  unfolding put
+  drop-put n h =
+      let l : length (take at d ++ s) ≡ at + length s = length-append (take at d) s ∙ ap (λ (k : ℕ). k + length s) (length-take-le at d (omega arith)) in
+      drop-back (put d at s) d (at + length s) (rw (← append-assoc (take at d) s (drop (at + length s) d)) (drop-at (take at d ++ s) (drop (at + length s) d) (at + length s) l)) n h
+
+-- a part of which one element is stored
+pub part-set : (s : List ℕ) (a e k v : ℕ) → k < e - a → part (set s (a + k) v) a e ≡ set (part s a e) k v
+part-set s a e k v h = ap (take (e - a)) (drop-set-add a s k v) ∙ take-set-lt (e - a) (drop a s) k v h

@@ -7,6 +7,9 @@ ghost use lib.ListN.{length};
 ghost use Rattle.wire.specs.Buffer.{put, part};
 ghost use Rattle.wire.specs.Sum.{sumOf};
 
+// How many values a byte has.
+pub const BYTE_VALUES: u32 = 256;
+
 // The sum of the bytes of s, taken modulo 256.
 pub fn sum(s: &[u8]) -> u8
     ensures { λ r. ⌜ r ≡ sumOf (now (s .entry)) ⌝ }

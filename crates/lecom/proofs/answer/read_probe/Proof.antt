@@ -23,6 +23,9 @@ returns : tie.Need-returns
 unfolding probeAnswer
 returns c = rw (← (c .before .before .before .before .before .before .read-code .ensures), c .before .before .before .before .enum-told .given .1) (c .before .before .refuse .ensures)
 
+word-requires : tie.Need-word-requires
+word-requires c κs = search needs
+
 tell-requires : tie.Need-tell-requires
 tell-requires c κs = search needs
 
@@ -31,7 +34,7 @@ same-length-2 c = search needs
 
 returns-2 : tie.Need-returns-2
 unfolding probeAnswer
-returns-2 c = rw (← (c .before .before .before .before .before .before .before .read-code .ensures), c .before .before .before .before .before .tenths .given .1) (c .before .before .tell .ensures)
+returns-2 c = rw (← (c .before .before .before .before .before .before .before .before .read-code .ensures), c .before .before .before .before .before .before .tenths .given .1, ← (c .before .before .before .word .ensures)) (c .before .before .tell .ensures)
 
 pub read-probe-spec : {M : Type 1} → statement M
 read-probe-spec =
@@ -43,6 +46,7 @@ read-probe-spec =
     refuse-requires
     same-length
     returns
+    word-requires
     tell-requires
     same-length-2
     returns-2)

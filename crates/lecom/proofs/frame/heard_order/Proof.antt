@@ -6,7 +6,8 @@ use mathlib.Core.Bool.{true}
 use Prim.Native.Nat.{_≤_}
 use lib.ListN.{length}
 use Rattle.lecom.proofs.Places.{size-holds}
-use Rattle.lecom.specs.Frame.{sizeRight, codeEnd, heard}
+use Rattle.lecom.specs.Frame.{sizeRight, codeEnd}
+use Rattle.lecom.specs.Stages.{heard}
 use borrow.Author.Needs.{needs}
 use Rattle.lecom.proofs.frame.heard_order.Statement.{statement}
 use Rattle.lecom.proofs.frame.heard_order.Tie as tie

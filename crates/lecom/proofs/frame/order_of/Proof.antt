@@ -4,6 +4,7 @@ use lib.ListN.{length}
 use native.Mathlib.Omega.{arith}
 use Rattle.lecom.proofs.Places.{length-facts}
 use Rattle.lecom.specs.Frame.{asked, figuresRight}
+use Rattle.lecom.specs.Stages.{heard}
 use borrow.Author.Needs.{needs}
 use Rattle.lecom.proofs.frame.order_of.Statement.{statement}
 use Rattle.lecom.proofs.frame.order_of.Tie as tie
@@ -49,7 +50,7 @@ heard-order-requires : tie.Need-heard-order-requires
 heard-order-requires c κs = omega (arith, length-facts (length (c .before .before .before .before .before .before .before .before .before .before .args .f .now)) (told-yes (c .before .before .before .before .before .before .before .before .fits2 .ensures) (c .before .before .before .before .before .before .before .if1 .left)))
 
 returns-5 : tie.Need-returns-5
-unfolding asked figuresRight
+unfolding asked figuresRight heard
 returns-5 c = search cases
 
 pub order-of-spec : {M : Type 1} → statement M

@@ -24,6 +24,9 @@ same-length c = search needs
 returns : tie.Need-returns
 returns c = rw (← status-fault _ (sym (c .before .before .before .before .before .before .read-code .ensures) ∙ c .before .before .before .before .enum-told .given .1)) (c .before .before .put-status .ensures)
 
+word-requires : tie.Need-word-requires
+word-requires c κs = search needs
+
 magnitude-requires : tie.Need-magnitude-requires
 magnitude-requires c κs = search needs
 
@@ -39,9 +42,10 @@ same-length-2 c = search needs
 returns-2 : tie.Need-returns-2
 returns-2 c =
     let test = c .before .before .before .before in
-    let known = test .before .before .before .before in
+    let read = test .before .before .before in
+    let known = read .before .before in
     let e = sym (known .before .before .read-code .ensures) ∙ known .tenths .given .1 in
-    rw (← status-negative _ _ e (told-true (test .before .is-negative .ensures) (test .if1 .taken)), ← test .before .before .magnitude .ensures) (c .before .before .put-status2 .ensures)
+    rw (← status-negative _ _ e (rw (← (read .word .ensures)) (told-true (test .before .is-negative .ensures) (test .if1 .taken))), ← (read .word .ensures), ← test .before .before .magnitude .ensures) (c .before .before .put-status2 .ensures)
 
 put-status-requires-3 : tie.Need-put-status-requires-3
 put-status-requires-3 c κs = search needs
@@ -52,9 +56,10 @@ same-length-3 c = search needs
 returns-3 : tie.Need-returns-3
 returns-3 c =
     let test = c .before .before .before .before in
-    let known = test .before .before .before .before in
+    let read = test .before .before .before in
+    let known = read .before .before in
     let e = sym (known .before .before .read-code .ensures) ∙ known .tenths .given .1 in
-    rw (← status-positive _ _ e (told-false (test .before .is-negative .ensures) (test .if1 .left)), ← test .before .before .magnitude .ensures) (c .before .before .put-status3 .ensures)
+    rw (← status-positive _ _ e (rw (← (read .word .ensures)) (told-false (test .before .is-negative .ensures) (test .if1 .left))), ← (read .word .ensures), ← test .before .before .magnitude .ensures) (c .before .before .put-status3 .ensures)
 
 pub put-probe-spec : {M : Type 1} → statement M
 put-probe-spec =
@@ -66,6 +71,7 @@ put-probe-spec =
     put-status-requires
     same-length
     returns
+    word-requires
     magnitude-requires
     is-negative-requires
     put-status-requires-2

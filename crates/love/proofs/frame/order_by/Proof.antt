@@ -1,7 +1,7 @@
 -- `love::frame::order_by` meets its contract, test by test. Assumes nothing.
 use borrow.Author.Needs.{needs}
 use Rattle.wire.proofs.Cases.{cases}
-use Rattle.love.specs.Frame.{orderBy}
+use Rattle.love.specs.Stages.{orderBy}
 use Rattle.love.proofs.frame.order_by.Statement.{statement}
 use Rattle.love.proofs.frame.order_by.Tie as tie
 

@@ -1,7 +1,7 @@
 -- `love::frame::order_here` meets its contract, test by test. Assumes nothing.
 use borrow.Author.Needs.{needs}
 use Rattle.wire.proofs.Cases.{cases}
-use Rattle.love.specs.Frame.{orderHere}
+use Rattle.love.specs.Stages.{orderHere}
 use Rattle.love.proofs.frame.order_here.Statement.{statement}
 use Rattle.love.proofs.frame.order_here.Tie as tie
 

@@ -1,7 +1,7 @@
 -- `love::frame::order_in` meets its contract, test by test. Assumes nothing.
 use borrow.Author.Needs.{needs}
 use Rattle.wire.proofs.Cases.{cases}
-use Rattle.love.specs.Frame.{orderIn}
+use Rattle.love.specs.Stages.{orderIn}
 use Rattle.love.proofs.frame.order_in.Statement.{statement}
 use Rattle.love.proofs.frame.order_in.Tie as tie
 

@@ -12,6 +12,7 @@ use Rattle.wire.proofs.Cases.{cases, told-yes}
 use Rattle.figures.specs.Figure.{upperHex, noByte, allFigures}
 use Rattle.love.specs.Form.{shortest, addressAt, fieldAt}
 use Rattle.love.specs.Frame.{asked}
+use Rattle.love.specs.Stages.{orderWrite, orderBy, orderIn, orderHere}
 use Rattle.love.proofs.Frames.{length-least, address-figures}
 use Rattle.love.proofs.frame.order_of.Statement.{statement}
 use Rattle.love.proofs.frame.order_of.Tie as tie
@@ -61,7 +62,7 @@ order-here-requires : tie.Need-order-here-requires
 order-here-requires c κs = ((c .before .before .before .before .before .before .before .before .before .pre, long (c .before .before .before .before .before .before)), c .before .byte-at .ensures)
 
 returns-5 : tie.Need-returns-5
-unfolding asked
+unfolding asked orderHere orderIn orderBy orderWrite
 returns-5 c =
     let right : allFigures upperHex (part (c .before .before .before .before .before .before .before .before .before .before .args .f .now) addressAt fieldAt) ≡ true = figures (c .before .before) ∙ ap not (ne-eqb _ _ (c .before .if4 .left)) in
     search (cases, right)

@@ -1,7 +1,8 @@
 -- `love::frame::order_write` meets its contract, test by test. Assumes nothing.
 use borrow.Author.Needs.{needs}
 use Rattle.wire.proofs.Cases.{cases, told-yes}
-use Rattle.love.specs.Frame.{orderWrite, signRight}
+use Rattle.love.specs.Frame.{signRight}
+use Rattle.love.specs.Stages.{orderWrite}
 use Rattle.love.proofs.frame.order_write.Statement.{statement}
 use Rattle.love.proofs.frame.order_write.Tie as tie
 

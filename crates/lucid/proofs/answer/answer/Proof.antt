@@ -2,7 +2,7 @@
 use Rattle.lucid.proofs.Replies.{told-as}
 use Rattle.lucid.proofs.Orders.{set-done}
 use Rattle.lucid.specs.Answer.{answerTo}
-use Rattle.lucid.specs.Frame.{Placed}
+use Rattle.lucid.specs.Stages.{Placed}
 use mathlib.Core.Path.{sym, ap, subst}
 use borrow.Author.Needs.{needs}
 use Rattle.lucid.proofs.answer.answer.Statement.{statement}

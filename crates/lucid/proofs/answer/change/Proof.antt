@@ -1,7 +1,7 @@
 -- `lucid::answer::change` meets its contract, order by order. Assumes nothing.
 use Rattle.lucid.proofs.Orders.{changes-none}
 use Rattle.lucid.specs.Answer.{changed}
-use Rattle.lucid.specs.Frame.{Placed, Supplied}
+use Rattle.lucid.specs.Stages.{Placed, Supplied}
 use mathlib.Core.Path.{sym, ap, _∙_, subst}
 use borrow.Author.Needs.{needs}
 use Rattle.lucid.proofs.answer.change.Statement.{statement}

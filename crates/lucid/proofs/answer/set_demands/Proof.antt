@@ -27,14 +27,8 @@ loop-holds c = search needs
 pair-requires : tie.Need-pair-requires Inv-loop μ-loop
 pair-requires c κs = let l = c .before .before .loop in omega (arith, ap length (channels-named (l .channel) (l .left) (c .before .loop-test .taken) (c .if1 .taken)))
 
-add-words : tie.Need-add-words Inv-loop μ-loop
-add-words c = omega arith
-
-mul-words : tie.Need-mul-words Inv-loop μ-loop
-mul-words c = omega arith
-
-slice-write-words : tie.Need-slice-write-words Inv-loop μ-loop
-slice-write-words c = omega arith
+set-demand-requires : tie.Need-set-demand-requires Inv-loop μ-loop
+set-demand-requires c κs = search needs
 
 cast-at : tie.Need-cast-at Inv-loop μ-loop
 cast-at c = omega arith
@@ -56,7 +50,7 @@ loop-again c = let l = c .before .before .loop in
     ⊎-elim
     (λ w.
     let e = channels-named (l .channel) (l .left) h (w .0 .taken) in
-    (omega arith, (rw (w .2) (simp length-set (l .inv .1 .0)), (omega (arith, ap length e), rw (w .2, w .3, w .1 .ensures .0) (sym (ap (λ (ks : List ℕ). demanded ks f (l .at) (l .words)) e) ∙ l .inv .1 .1 .1)))))
+    (omega arith, (rw (w .6, w .3 .ensures) (simp length-set (l .inv .1 .0)), (omega (arith, ap length e), rw (w .6, w .7, w .3 .ensures, w .1 .ensures .0) (sym (ap (λ (ks : List ℕ). demanded ks f (l .at) (l .words)) e) ∙ l .inv .1 .1 .1)))))
     (λ w.
     let e = channels-passed (l .channel) (l .left) h (w .0 .left) in
     (omega arith, (rw (w .1) (l .inv .1 .0), (omega (arith, ap length e), rw (w .1, w .2) (sym (ap (λ (ks : List ℕ). demanded ks f (l .at) (l .words)) e) ∙ l .inv .1 .1 .1)))))
@@ -78,9 +72,7 @@ set-demands-spec =
     μ-loop
     loop-holds
     pair-requires
-    add-words
-    mul-words
-    slice-write-words
+    set-demand-requires
     cast-at
     add-at
     add-channel

@@ -2,7 +2,8 @@
 use Prim.Native.Nat.{ℕ, _+_}
 use borrow.Author.Tests.{eq-eqb, ne-eqb}
 use mathlib.Core.Path.{sym, ap, _∙_}
-use Rattle.lucid.specs.Frame.{lenIn, optionAsked}
+use Rattle.lucid.specs.Frame.{lenIn}
+use Rattle.lucid.specs.Stages.{optionAsked}
 use Rattle.wire.proofs.Cases.{yes, no, told-yes, told-no}
 use borrow.Author.Needs.{needs}
 use Rattle.lucid.proofs.frame.option_asked.Statement.{statement}

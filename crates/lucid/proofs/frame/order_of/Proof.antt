@@ -2,6 +2,7 @@
 use mathlib.Core.Path.{refl}
 use native.Mathlib.Omega.{arith}
 use Rattle.lucid.specs.Frame.{asked}
+use Rattle.lucid.specs.Stages.{parameterAsked, optionAsked}
 use Rattle.wire.proofs.Cases.{yes, no, told-yes, told-no}
 use borrow.Author.Tests.{eq-eqb, ne-eqb}
 use borrow.Author.Needs.{needs}
@@ -56,7 +57,7 @@ option-asked-requires c κs = let tested = c .before .before .before in
     (told-yes (tested .before .before .before .opc-known .ensures) (tested .before .before .if2 .left), (told-yes (tested .before .channel-right .ensures) (tested .if3 .left), tested .before .before .before .before .if1 .left))
 
 returns-5 : tie.Need-returns-5
-unfolding asked
+unfolding asked optionAsked parameterAsked
 returns-5 c = let measured = eq-eqb _ _ (c .before .before .before .before .before .before .before .before .if1 .left) in search (yes, no, told-yes, told-no) depth 12
 
 pub order-of-spec : {M : Type 1} → statement M

@@ -1,6 +1,6 @@
 -- `lucid::frame::parameter_asked` meets its contract, test by test. Assumes nothing.
 use Rattle.lucid.proofs.Lengths.{address-within, value-within}
-use Rattle.lucid.specs.Frame.{parameterAsked}
+use Rattle.lucid.specs.Stages.{parameterAsked}
 use Rattle.wire.proofs.Cases.{yes, no, told-yes, told-no}
 use borrow.Author.Needs.{needs}
 use Rattle.lucid.proofs.frame.parameter_asked.Statement.{statement}

@@ -1,12 +1,13 @@
 -- `master::answer::is_echo` meets its contract: the echo that is due, compared. Assumes nothing.
 use lib.Seq.{length-take-le}
+use Rattle.wire.specs.Buffer.{same}
 use Rattle.master.specs.Request.{requestOf}
 use mathlib.Core.Path.{sym, ap, _∙_}
 use native.Mathlib.Omega.{arith}
 use Prim.Native.Nat.{_+_}
 use Rattle.datalink.specs.Answer.{response}
 use Rattle.master.proofs.Frames.{change-few, wrote-front}
-use Rattle.master.specs.Frames.{same, isEcho, echo}
+use Rattle.master.specs.Frames.{isEcho, echo}
 use borrow.Author.Needs.{needs}
 use Rattle.master.proofs.answer.is_echo.Statement.{statement}
 use Rattle.master.proofs.answer.is_echo.Tie as tie

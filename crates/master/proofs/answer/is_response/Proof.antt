@@ -8,9 +8,10 @@ use Rattle.datalink.proofs.Responses.{framed-length}
 use mathlib.Core.Path.{sym, ap, _∙_}
 use native.Mathlib.Omega.{arith}
 use Rattle.datalink.specs.Answer.{response}
+use Rattle.wire.specs.Buffer.{same}
 use Rattle.master.proofs.Frames.{response-short, wrote-front}
 use Rattle.master.proofs.Requests.{named-sent, sent-few}
-use Rattle.master.specs.Frames.{same, body, isResponse}
+use Rattle.master.specs.Frames.{body, isResponse}
 use borrow.Author.Needs.{needs}
 use Rattle.master.proofs.answer.is_response.Statement.{statement}
 use Rattle.master.proofs.answer.is_response.Tie as tie

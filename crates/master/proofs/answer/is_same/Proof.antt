@@ -6,8 +6,8 @@ use Prim.Native.Nat.{suc, _≤_, _-_}
 use native.Mathlib.Numerals.{add-one}
 use borrow.Author.Tests.{eq-eqb, ne-eqb}
 use lib.ListN.{length, drop, getD}
+use Rattle.wire.specs.Buffer.{same}
 use Rattle.master.proofs.Frames.{same-false, same-next, same-end}
-use Rattle.master.specs.Frames.{same}
 use Rattle.master.proofs.answer.is_same.Statement.{statement}
 use Rattle.master.proofs.answer.is_same.Tie as tie
 

@@ -1,0 +1,80 @@
+-- A fit card stays fit, whatever Datalink frame it gets. Assumes nothing.
+use mathlib.Core.Path.{_≡_, refl, _∙_}
+use mathlib.Core.Bool.{true}
+use mathlib.Core.List.{List, _∷_}
+use Prim.Native.Nat.{ℕ, zero, suc, _+_, _-_, _≤_, _<_}
+use native.Mathlib.Omega.{arith}
+use lib.Dec.{eqb}
+use lib.ListN.{length, getD, drop, length-set, List·getD-append}
+use lib.Seq.{getD-drop, getD-take}
+use Rattle.wire.specs.Buffer.{overlay}
+use Rattle.wire.proofs.Cases.{by-choice}
+use Rattle.wire.proofs.Buffers.{length-overlay, length-part}
+use Rattle.card.specs.Layout.{Card, kindAt}
+use Rattle.card.specs.Tables.{noChange, named, echoable, fitPending, fit}
+use Rattle.card.specs.Reply.{roomLeast}
+use Rattle.card.proofs.Facts.{fit-tables, tables-fit}
+use Rattle.card.proofs.Scans.{or-true-right}
+use Rattle.card.proofs.Staying.{IsFit, shell-fit, dropped-fit, length-dropped}
+use Rattle.datalink.specs.Frame.{numPlace, dataPlace, numIn, addressIn, asked}
+use Rattle.datalink.specs.Answer.{iaOf, interrogated, bodyOf, pended, echoed, changed, appliedTo, applied, acknowledged, obeyed, datalinkReply}
+use Rattle.datalink.specs.declared.frame.Order.{Order}
+use Rattle.datalink.specs.declared.frame.Order.the-variants.{Refused, Interrogate, Change, Acknowledge}
+use Rattle.datalink.proofs.Frames.{Sound, asked-sound}
+
+-- a change keeps the length of memory
+pub length-changed : (kind a : ℕ) (sent : List ℕ) (k : ℕ) (memory : List ℕ) → length (changed kind a sent k memory) ≡ length memory
+unfolding changed
+length-changed kind a sent zero memory = refl
+length-changed kind a sent (suc k) memory = rw length-set (length-changed kind a sent k memory)
+
+-- what an echoed change leaves as the pending one
+module _ (f : List ℕ) (kind num : ℕ) (p : List ℕ) (long : dataPlace + num ≤ length f) where
+  length-body : length (bodyOf f num) ≡ dataPlace + num - numPlace
+  unfolding bodyOf
+  length-body = length-part f numPlace (dataPlace + num) (omega arith) long
+
+  -- a byte after the kind is one of the frame's, as received
+  pended-at : (i : ℕ) → numPlace + i < dataPlace → getD (overlay (kind ∷ bodyOf f num) p) (suc i) 0 ≡ getD f (numPlace + i) 0
+  unfolding overlay bodyOf
+  pended-at i h =
+      List·getD-append (bodyOf f num) _ 0 i (omega (arith, length-body))
+      ∙ getD-take (dataPlace + num - numPlace) (drop numPlace f) i 0 (omega arith)
+      ∙ getD-drop numPlace f i 0
+
+  pended-fit : num ≡ numIn f → echoable kind num (addressIn f) (named kind num) ≡ true → fitPending (overlay (kind ∷ bodyOf f num) p) ≡ true
+  unfolding fitPending overlay numIn addressIn
+  pended-fit same e =
+      rw (pended-at 0 (omega arith), pended-at 1 (omega arith), pended-at 2 (omega arith), ← same, e) (or-true-right (eqb kind noChange))
+
+obeyed-fit : (card : Card) (f : List ℕ) (o : Order) → Sound f o → fit card ≡ true → IsFit (obeyed card f o)
+unfolding obeyed interrogated echoed pended acknowledged applied appliedTo
+obeyed-fit card f (Refused number) s e = e
+obeyed-fit card f (Interrogate at n) s e = e
+obeyed-fit card f (Change kind num) s e =
+    let t = fit-tables card e in
+    let l : dataPlace + num ≤ length f = omega (arith, s .0) in
+    let body = length-body f kind num (card .pending) l in
+    tables-fit _
+    (record {
+      words-length = t .words-length;
+      memory-length = t .memory-length;
+      pending-length = length-overlay (kind ∷ bodyOf f num) (card .pending) (omega (arith, body, s .1 .0, t .pending-length)) ∙ t .pending-length;
+      words-fit = t .words-fit;
+      pending-fit = pended-fit f kind num (card .pending) l (s .1 .1 .1 .0) (s .1 .1 .1 .1);
+    })
+obeyed-fit card f Acknowledge s e =
+    let t = fit-tables card e in
+    by-choice IsFit (eqb (getD (card .pending) kindAt 0) noChange) _ _ (λ _. e)
+    (λ _. tables-fit (applied card)
+    (record {
+      words-length = t .words-length;
+      memory-length = length-changed _ _ _ _ (card .memory) ∙ t .memory-length;
+      pending-length = length-dropped (card .pending) ∙ t .pending-length;
+      words-fit = t .words-fit;
+      pending-fit = dropped-fit (card .pending);
+    }))
+
+pub stays-fit : (card : Card) (room : ℕ) (f : List ℕ) → fit card ≡ true → fit (datalinkReply card room f .card) ≡ true
+unfolding datalinkReply
+stays-fit card room f e = shell-fit roomLeast card room _ e (obeyed-fit card f (asked (iaOf card) f) (asked-sound f (iaOf card)) e)
