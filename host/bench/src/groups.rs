@@ -342,13 +342,13 @@ fn sweeps() -> Vec<Group> {
         lengths("LECOM extended write", Entry::Lecom, &data, |count| {
             lecom_write("11", "!005F00", &minus(count))
         }),
-        lengths("LECOM ACTIVATE", Entry::Lecom, &data, |count| {
+        lengths("LECOM extended ACTIVATE", Entry::Lecom, &data, |count| {
             lecom_write("11", "!006700", &one(count))
         }),
-        lengths("LECOM STORE", Entry::Lecom, &data, |count| {
+        lengths("LECOM extended STORE", Entry::Lecom, &data, |count| {
             lecom_write("11", "!006800", &one(count))
         }),
-        lengths("LECOM collective STORE", Entry::Lecom, &data, |count| {
+        lengths("LECOM collective extended STORE", Entry::Lecom, &data, |count| {
             lecom_write("00", "!006800", &one(count))
         }),
         registers(),

@@ -11,6 +11,8 @@ use crate::text::{bytes_of, number, words};
 
 /// The first writable entry of the memory.
 const WRITABLE: usize = (WRITABLE_START - MEMORY_START) as usize;
+/// Frames that the master sends before the acknowledge: the change.
+const FRAMES_BEFORE_ACKNOWLEDGE: usize = 1;
 
 /// What a request asks, as masks and states: a data byte has mask 00h.
 struct Asked {
@@ -72,9 +74,12 @@ struct Exchange {
     old: Vec<u8>,
     /// The memory with the named bytes as asked.
     new: Vec<u8>,
+    /// What the master said at its last step, refused or not.
     says: Vec<u8>,
     /// The frame last sent; none before the first and after the end.
     frame: Option<Vec<u8>>,
+    /// How many frames were sent.
+    frames: usize,
     /// Answers with number 0 that its arrivals in this round got.
     answers: Vec<Vec<u8>>,
     arrivals: usize,
@@ -95,6 +100,7 @@ impl Exchange {
             new,
             says: Vec::new(),
             frame: None,
+            frames: 0,
             answers: Vec::new(),
             arrivals: 0,
             is_first_accepted: false,
@@ -104,7 +110,7 @@ impl Exchange {
     }
 
     /// A step that was not refused; false if the answer it got breaks the premise.
-    fn step(&mut self, heard: &[u8], says: &[u8], sent: Vec<u8>) -> bool {
+    fn step(&mut self, heard: &[u8], sent: Vec<u8>) -> bool {
         if self.frame.is_some() {
             if !heard.is_empty() && !self.answers.iter().any(|answer| answer == heard) {
                 return false;
@@ -114,8 +120,8 @@ impl Exchange {
             self.closed
                 .push(self.arrivals > 0 && self.is_first_accepted && is_heard);
         }
-        self.says = says.to_vec();
         self.frame = Some(sent).filter(|frame| !frame.is_empty());
+        self.frames += usize::from(self.frame.is_some());
         self.answers.clear();
         self.arrivals = 0;
         true
@@ -168,7 +174,7 @@ impl Exchange {
         if now != old && now != new {
             return Err("the writable bytes are neither all old nor all as asked".to_owned());
         }
-        if self.closed.is_empty() && now != old {
+        if self.frames <= FRAMES_BEFORE_ACKNOWLEDGE && now != old {
             return Err("a byte changed before the acknowledge was sent".to_owned());
         }
         if self.says == b"done" && (now != new || !self.asked.is_writable()) {
@@ -225,7 +231,7 @@ impl Watch {
         }
     }
 
-    /// The master takes a step.
+    /// The master takes a step. A refused one closes no round, but what it says counts.
     fn see_step(&mut self, rest: &[&[u8]], answer: &[&[u8]]) -> Result<(), String> {
         let (&[given, says], sent) = match answer.split_first_chunk() {
             Some(parts) => parts,
@@ -237,10 +243,8 @@ impl Watch {
         let (Some(exchange), Some(heard), Some(sent)) = (&mut self.exchange, heard, sent) else {
             return Ok(());
         };
-        if is_refused {
-            return Ok(());
-        }
-        if !exchange.step(&heard, says, sent) {
+        exchange.says = says.to_vec();
+        if !is_refused && !exchange.step(&heard, sent) {
             self.exchange = None;
             return Ok(());
         }
@@ -331,6 +335,14 @@ mod tests {
             entries[place] = &value;
             self.see("peek memory", &entries.join(" "))
         }
+
+        /// What the watch says to a memory with both named bytes as asked.
+        fn see_as_asked(&mut self) -> Result<(), String> {
+            let mut memory = vec!["0"; MEMORY_PLACES];
+            memory[16] = "1";
+            memory[17] = "2";
+            self.see("peek memory", &memory.join(" "))
+        }
     }
 
     #[test]
@@ -375,11 +387,58 @@ mod tests {
     fn nothing_changes_before_the_acknowledge() {
         let mut followed = Followed::new();
         followed.take("step 38");
+        let echo = followed.take(ECHO);
+        assert!(followed.see_as_asked().is_err());
+        followed.take(&format!("step 38{}", &echo[1..]));
+        assert!(followed.see_as_asked().is_ok());
+    }
+
+    #[test]
+    fn nothing_changes_after_an_end_without_an_echo() {
+        let mut followed = Followed::new();
+        followed.take("step 38");
         followed.take(ECHO);
-        let mut memory = vec!["0"; MEMORY_PLACES];
-        memory[16] = "1";
-        memory[17] = "2";
-        assert!(followed.see("peek memory", &memory.join(" ")).is_err());
+        assert_eq!(followed.take("step 38"), "1 unknown");
+        assert!(followed.see_as_asked().is_err());
+    }
+
+    #[test]
+    fn a_refused_step_must_not_say_done() {
+        let mut followed = Followed::new();
+        followed.take("step 38");
+        assert_eq!(followed.take("step 38"), "1 unknown");
+        assert!(followed.see("step 38", "10 done").is_ok());
+        let memory = followed.model.line(b"peek memory");
+        assert!(followed.see("peek memory", &memory).is_err());
+    }
+
+    #[test]
+    fn a_refused_step_must_not_end_a_lossless_exchange() {
+        for answer in ["11 unknown", "11 done"] {
+            let mut followed = Followed::new();
+            followed.take("step 38");
+            followed.take(ECHO);
+            assert!(followed.see("step 37", answer).is_err(), "{answer}");
+        }
+    }
+
+    #[test]
+    fn a_refused_step_closes_no_round() {
+        let mut followed = Followed::new();
+        assert_eq!(followed.take("step 37"), "11 open");
+        followed.take("step 38");
+        let echo = followed.take(ECHO);
+        assert_eq!(followed.take(&format!("step 37{}", &echo[1..])), "11 open");
+        followed.take(&format!("step 38{}", &echo[1..]));
+        followed.take(ACKNOWLEDGED);
+        assert_eq!(followed.take("step 37"), "11 open");
+        followed.take("step 38");
+        let read_back = followed.take(READ_BACK);
+        assert_eq!(followed.take(&format!("step 37{}", &read_back[1..])), "11 open");
+        assert_eq!(followed.take(&format!("step 38{}", &read_back[1..])), "1 done");
+        assert_eq!(followed.take("step 38"), "10 done");
+        let exchange = followed.watch.exchange.unwrap();
+        assert_eq!(exchange.closed, [true; ROUNDS]);
     }
 
     #[test]
