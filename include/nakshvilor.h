@@ -3,12 +3,14 @@
  * Link with libfirmware.a (`rt staticlib firmware` writes target/staticlib/libfirmware.a). The archive asks
  * for memcpy alone, allocates nothing, keeps no state of its own and calls nothing back.
  *
- * TABLES. The firmware owns three tables and lends them to every call. Each is a pointer and a count of ELEMENTS. A table
- * of any other length than below, zero too, gets NK_CARD_UNFIT and is not touched. A null pointer with count 0 is allowed.
+ * TABLES. The firmware owns three tables and lends them to every call of the card. Each is a pointer and a count of ELEMENTS. A
+ * table of any other length than below, zero too, gets NK_CARD_UNFIT and is not touched.
  *
- * LENDING. What is passed is borrowed for the call alone. Tables, frame and answer buffer may not overlap. One call at a
- * time may hold a table that is not const; calls on different cards are independent. Bytes of an answer buffer after the
- * answer are never written.
+ * LENDING. What is passed is borrowed for the call alone. A pointer that has a count may be null if the count is 0; `len`,
+ * `degrees` and `phase` may not be null. What is lent to one call may not overlap: tables, frame, answer buffer and image, and
+ * of nk_step `sent`, `states`, `answer` and `frame`; nor may *len, *degrees or *phase lie in any of these. While a call holds a
+ * table that is not const, no other call may hold it; calls on different cards are independent. In an answer buffer, a frame
+ * buffer or an image's buffer the bytes after those that the call gives are never written.
  *
  * REFUSALS. Every entry takes all inputs and returns one of the numbers below. A number of 2 or more changes no table and
  * writes nothing but the wire bytes of that refusal, whose count is in *len (0 for none). *len is written by every call that
@@ -60,7 +62,7 @@ enum {
 #define NK_LOVE_ADDRESS 2u   /* 1 to 3FFh, low two hex figures not 00 */
 #define NK_LOVE 3u           /* SP1, SP2, ALLO, ALHI: signed tenths, -400 to 870 */
 #define NK_DEMANDS 7u        /* four fan demands, 0 to 65535 */
-#define NK_PARAMETERS 11u    /* channel by channel: 1110h (1000 to 60000000), 1120h (0 to 65535) */
+#define NK_PARAMETERS 11u    /* channel by channel: 1110h (1000 to 60000000, default 1000000), 1120h (0 to 65535, default 0) */
 #define NK_KEPT 19u          /* their saved copies, in the same order */
 #define NK_REGISTERS 96u
 #define NK_BUFFER 27u        /* LECOM registers, signed, -999999 to 999999: buffer copy, */
@@ -95,8 +97,13 @@ uint8_t nk_governor(const uint32_t *words, size_t words_count, const uint8_t *me
                     const uint8_t *pending, size_t pending_count, uint32_t channel, float *degrees);
 
 /* One whole request of a dialect. `frame` is the request as received; the answer is written to the front of `answer`
- * (at least NK_ROOM bytes, else NK_BUFFER_SHORT) and its length to *len, which is 0 where nothing is to be sent. Worst cases: Datalink 985
- * instructions and 120 bytes of stack, LECOM 1139 and 120, Love 1061 and 136, LucidControl 780 and 120. */
+ * (at least NK_ROOM bytes, else NK_BUFFER_SHORT) and its length to *len, which is 0 where nothing is to be sent.
+ *
+ * The longest frame has 38 bytes in Datalink, 25 in LECOM, 32 in Love and 259 in LucidControl: size the receive buffer by it. A
+ * longer one, handed over whole, is NK_FRAME_FORM with nothing to be sent.
+ *
+ * Worst cases: Datalink 985 instructions and 120 bytes of stack, LECOM 1139 and 120, Love 1061 and 136, LucidControl 780 and
+ * 120. */
 uint8_t nk_datalink(const uint32_t *words, size_t words_count, uint8_t *memory, size_t memory_count, uint8_t *pending,
                     size_t pending_count, const uint8_t *frame, size_t frame_count, uint8_t *answer, size_t answer_count,
                     size_t *len);
@@ -131,8 +138,8 @@ uint8_t nk_read_image(uint32_t *words, size_t words_count, const uint8_t *memory
  *
  * NK_ANSWERED: send the frame. NK_DONE: the exchange has ended, *phase says how: NK_ENDED_DONE (every byte, or every forced
  * bit, was read back as asked) or NK_ENDED_UNKNOWN. Refused, with nothing sent and no step moved: NK_VALUE_OUTSIDE for the
- * request, NK_BUFFER_SHORT, NK_NOTHING_PENDING after the end. A phase outside the list counts as NK_ENDED_UNKNOWN,
- * and is then stored as that. Worst case: 504 instructions, 184 bytes of stack. */
+ * request, NK_BUFFER_SHORT, NK_NOTHING_PENDING after the end. A phase outside the list counts as NK_ENDED_UNKNOWN, and is then
+ * stored as that. Worst case: 504 instructions, 184 bytes of stack. */
 enum { NK_BYTES = 0, NK_BITS = 1 };
 enum {
     NK_NEW = 0,
