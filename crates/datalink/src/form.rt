@@ -39,7 +39,7 @@ impl Datalink {
     pub const BARE: usize = 6;
 
     // Whether a frame may be n bytes long.
-    pub fn fits(n: usize) -> bool
+    pub(crate) fn fits(n: usize) -> bool
         ensures { λ r. ⌜ r ≡ lengthRight n ⌝ }
     {
         (Datalink::SHORTEST <= n) & (n <= Datalink::LONGEST)

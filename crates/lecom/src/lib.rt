@@ -1,6 +1,6 @@
 // The LECOM dialect. Document 01, "LECOM"; source document 001.
 mod answer;
-pub mod form;
+mod form;
 mod frame;
 
 use card::Outcome;

@@ -1,6 +1,6 @@
 // The Love dialect. Document 01, "Love"; source document 004.
 mod answer;
-pub mod form;
+mod form;
 mod frame;
 
 use card::Outcome;

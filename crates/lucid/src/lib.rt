@@ -1,6 +1,6 @@
 // The LucidControl dialect: what a frame asks, what the card answers, and the entry. Document 01, "LucidControl".
 mod answer;
-pub mod form;
+mod form;
 mod frame;
 
 use card::Outcome;

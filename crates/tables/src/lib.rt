@@ -1,5 +1,4 @@
 // The tables by name and place, for poke and peek: every entry in one numbering, the words first, then memory, then the pending change. docs/CONSOLE.md.
-pub mod start;
 
 use card::fitness;
 use card::fitness::NO_CHANGE;

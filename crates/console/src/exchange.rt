@@ -1,0 +1,215 @@
+// The line master that the console keeps: request and step.
+use lines::BYTES_MOST;
+use lines::ROOM_MOST;
+use lines::UNREAD;
+use lines::line;
+use lines::text;
+use master::Phase;
+use master::Verdict;
+use master::request::Kind;
+ghost use mathlib.Core.Path.{_≡_};
+ghost use Prim.Native.Nat.{_+_, _≤_, _<_};
+ghost use lib.ListN.{length, take};
+ghost use Rattle.lines.specs.Lent.{lineMost, bytesMost, answerMost, roomMost, Asked};
+ghost use Rattle.lines.specs.Text.{Put};
+ghost use Rattle.console.specs.Held.{Held, Answered};
+ghost use Rattle.console.specs.Stepped.{verdictMost, verdictOf, stepped, steppedMost};
+
+// A request and how far its exchange went. The bytes asked for, or the masks, stand at the front of a lent buffer, states from its middle on.
+pub struct Exchange {
+    pub asked: bool,
+    pub kind: Kind,
+    pub ia: u32,
+    pub address: u32,
+    pub sent: usize,
+    pub states: usize,
+    pub phase: Phase,
+}
+
+// A call's answer line, and the exchange after it.
+pub struct Answer {
+    pub len: usize,
+    pub exchange: Exchange,
+}
+
+// No request yet.
+pub fn none() -> Exchange
+    ensures { λ r. ⌜ Held (r .sent) (r .states) ⌝ }
+{
+    Exchange {
+        asked: false,
+        kind: Kind::Bytes,
+        ia: 0,
+        address: 0,
+        sent: 0,
+        states: 0,
+        phase: Phase::New,
+    }
+}
+
+// Two runs of bytes read from a line: whether they can be read, and how many each has.
+struct Sent {
+    right: bool,
+    sent: usize,
+    states: usize,
+}
+
+// BYTES, or MASKS / STATES, which go to two buffers.
+fn read_sent(s: &[u8], at: usize, is_bits: bool, to: &mut [u8], back: &mut [u8]) -> Sent
+    requires { ⌜ ((at ≤ length (now s)) × (length (now s) ≤ lineMost)) × ((length (now to) ≡ bytesMost) × (length (now back) ≡ bytesMost)) ⌝ }
+    ensures { λ r. ⌜ Held (r .sent) (r .states) ⌝ }
+{
+    let sent = line::read_bytes(s, at, to);
+    if !is_bits {
+        return Sent {
+            right: sent.next == s.len(),
+            sent: sent.count,
+            states: 0,
+        };
+    }
+    let slash = line::read_name(s, sent.next, b"/");
+    let states = line::read_bytes(s, slash.next, back);
+    Sent {
+        right: (slash.number == 0) & (states.next == s.len()),
+        sent: sent.count,
+        states: states.count,
+    }
+}
+
+// The kind of a request by its first word.
+fn kind_of(is_bits: bool) -> Kind {
+    if is_bits {
+        return Kind::Bits;
+    }
+    Kind::Bytes
+}
+
+// The request that a line asks for; where it cannot be read, none is asked.
+fn read_request(s: &[u8], at: usize, to: &mut [u8], back: &mut [u8]) -> Exchange
+    requires { ⌜ ((at ≤ length (now s)) × (length (now s) ≤ lineMost)) × ((length (now to) ≡ bytesMost) × (length (now back) ≡ bytesMost)) ⌝ }
+    ensures { λ r. ⌜ Held (r .sent) (r .states) ⌝ }
+{
+    let how = line::read_name(s, at, b"change; bits");
+    let ia = line::read_number(s, how.next, u32::MAX);
+    let address = line::read_number(s, ia.next, u32::MAX);
+    let is_bits = how.number == 1;
+    let got = read_sent(s, address.next, is_bits, to, back);
+    let kind = kind_of(is_bits);
+    Exchange {
+        asked: (how.number <= 1) & (ia.right & (address.right & got.right)),
+        kind,
+        ia: ia.value,
+        address: address.value,
+        sent: got.sent,
+        states: got.states,
+        phase: Phase::New,
+    }
+}
+
+// Keeps a request's bytes, or masks, and its states.
+fn keep(sent: &[u8], states: &[u8], asked: &mut [u8])
+    requires { ⌜ ((length (now sent) ≡ bytesMost) × (length (now states) ≡ bytesMost)) × (length (now asked) ≡ lineMost) ⌝ }
+{
+    wire::copy(sent, asked, 0);
+    wire::copy(states, asked, BYTES_MOST);
+}
+
+// request change IA ADDRESS BYTES or request bits IA ADDRESS MASKS / STATES
+pub fn request(e: Exchange, s: &[u8], at: usize, asked: &mut [u8], out: &mut [u8]) -> Answer
+    requires { ⌜ Asked (now s) at (now out) × ((length (now asked) ≡ lineMost) × Held (e .sent) (e .states)) ⌝ }
+    ensures { λ r. ⌜ Answered (r .len) (r .exchange .sent) (r .exchange .states) (now (out .exit)) ⌝ }
+{
+    let mut f = [0u8; BYTES_MOST];
+    let mut g = [0u8; BYTES_MOST];
+    let new = read_request(s, at, &mut f, &mut g);
+    if !new.asked {
+        return Answer {
+            len: UNREAD,
+            exchange: e,
+        };
+    }
+    keep(&f, &g, asked);
+    let len = text::put_words(out, 0, b"ok");
+    Answer { len, exchange: new }
+}
+
+// What the master says, after a space.
+fn put_verdict(out: &mut [u8], at: usize, verdict: Verdict) -> usize
+    requires { ⌜ at + verdictMost ≤ length (now out) ⌝ }
+    ensures { λ r. ⌜ Put verdictMost at (verdictOf verdict) (now (out .entry)) r (now (out .exit)) ⌝ }
+{
+    match verdict {
+        Verdict::Open => text::put_words(out, at, b" open"),
+        Verdict::Done => text::put_words(out, at, b" done"),
+        Verdict::Unknown => text::put_words(out, at, b" unknown"),
+    }
+}
+
+// The line of a master's step, with the first len bytes of frame.
+fn tell_step(out: &mut [u8], number: u8, verdict: Verdict, frame: &[u8], len: usize) -> usize
+    requires { ⌜ ((len ≤ length (now frame)) × (length (now frame) ≤ roomMost)) × (steppedMost ≤ length (now out)) ⌝ }
+    ensures { λ r. ⌜ Put steppedMost 0 (stepped number verdict (take len (now (frame .entry)))) (now (out .entry)) r (now (out .exit)) ⌝ }
+{
+    let at = text::put_number(out, 0, number as u32);
+    let said = put_verdict(out, at, verdict);
+    text::put_bytes(out, said, &frame[..len])
+}
+
+// A step that could be read, with what was heard and the room for a frame.
+fn take_step(e: Exchange, asked: &[u8], heard: &[u8], frame: &mut [u8], out: &mut [u8]) -> Answer
+    requires { ⌜ (Held (e .sent) (e .states) × (length (now asked) ≡ lineMost)) × ((length (now frame) ≤ roomMost) × (answerMost ≤ length (now out))) ⌝ }
+    ensures { λ r. ⌜ Answered (r .len) (r .exchange .sent) (r .exchange .states) (now (out .exit)) ⌝ }
+{
+    let kind = e.kind;
+    let phase = e.phase;
+    let sent = e.sent;
+    let end = BYTES_MOST + e.states;
+    let went = master::step(
+        phase,
+        kind,
+        e.ia,
+        e.address,
+        &asked[..sent],
+        &asked[BYTES_MOST..end],
+        heard,
+        frame,
+    );
+    let next = went.phase;
+    let len = tell_step(out, went.number, master::says(next), frame, went.len);
+    Answer {
+        len,
+        exchange: Exchange {
+            asked: true,
+            kind,
+            ia: e.ia,
+            address: e.address,
+            sent,
+            states: e.states,
+            phase: next,
+        },
+    }
+}
+
+// step ROOM BYTES
+pub fn step(e: Exchange, s: &[u8], at: usize, asked: &[u8], out: &mut [u8]) -> Answer
+    requires { ⌜ Asked (now s) at (now out) × ((length (now asked) ≡ lineMost) × Held (e .sent) (e .states)) ⌝ }
+    ensures { λ r. ⌜ Answered (r .len) (r .exchange .sent) (r .exchange .states) (now (out .exit)) ⌝ }
+{
+    let mut f = [0u8; BYTES_MOST];
+    let mut frame = [0u8; ROOM_MOST];
+    let room = line::read_number(s, at, ROOM_MOST as u32);
+    let heard = line::read_bytes(s, room.next, &mut f);
+    if !(room.right & (heard.next == s.len())) {
+        return Answer {
+            len: UNREAD,
+            exchange: e,
+        };
+    }
+    if !e.asked {
+        let len = text::put_words(out, 0, b"error no request");
+        return Answer { len, exchange: e };
+    }
+    let n = heard.count;
+    let most = room.value as usize;
+    take_step(e, asked, &f[..n], &mut frame[..most], out)
+}

@@ -1,0 +1,208 @@
+// What a line asks, the call, and the line that answers it. docs/CONSOLE.md.
+use crate::calls;
+use crate::calls::CALLS;
+use crate::exchange;
+use crate::exchange::Answer;
+use crate::exchange::Exchange;
+use crate::input;
+use crate::input::Input;
+use libc::STDOUT_FILENO;
+use lines::LINE_FEED;
+use lines::UNREAD;
+use lines::line;
+use lines::text;
+ghost use mathlib.Core.Path.{_≡_};
+ghost use Prim.Native.Nat.{_+_, _≤_, _<_};
+ghost use lib.ListN.{length};
+ghost use Rattle.lines.specs.Lent.{lineMost, answerMost, listMost, Asked};
+ghost use Rattle.tables.specs.Entries.{Tables};
+ghost use Rattle.console.specs.Held.{Held, Answered};
+ghost use Rattle.console.specs.Lent.{Lent};
+
+// A line that starts with this is a note.
+const NOTE: u8 = b'#';
+
+// What a line asks: the number of its call, where that stands in CALLS, where the call's words start and where the line ends.
+struct Question {
+    number: usize,
+    from: usize,
+    next: usize,
+    end: usize,
+}
+
+// Where the console stands: whether it goes on, what is read, and the line master's exchange.
+pub struct State {
+    pub going: bool,
+    pub input: Input,
+    pub exchange: Exchange,
+}
+
+// A line that asks for no call, by one of the numbers above them.
+fn no_call(number: usize) -> Question
+    ensures { λ r. ⌜ (r .next ≡ 0) × (r .end ≡ 0) ⌝ }
+{
+    Question {
+        number,
+        from: CALLS.len(),
+        next: 0,
+        end: 0,
+    }
+}
+
+// What a line asks. Spaces alone and a note ask nothing.
+fn read_words(s: &[u8]) -> Question
+    ensures { λ r. ⌜ (r .next ≤ r .end) × (r .end ≤ length (now (s .entry))) ⌝ }
+{
+    let at = line::next_word(s, 0);
+    if s.len() <= at {
+        return no_call(calls::NOTHING);
+    }
+    if s[0] == NOTE {
+        return no_call(calls::NOTHING);
+    }
+    let name = line::read_name(s, at, &CALLS);
+    Question {
+        number: name.number,
+        from: name.from,
+        next: name.next,
+        end: s.len(),
+    }
+}
+
+// What the first n bytes of text ask, if they are a whole line.
+fn read_line(text: &[u8], n: usize, whole: bool) -> Question
+    ensures { λ r. ⌜ (r .next ≤ r .end) × (r .end ≤ length (now (text .entry))) ⌝ }
+{
+    if !whole {
+        return no_call(calls::NOTHING);
+    }
+    if text.len() < n {
+        return no_call(calls::TOO_LONG);
+    }
+    read_words(&text[..n])
+}
+
+// The entry of a list at from.
+fn put_usage(list: &[u8], from: usize, out: &mut [u8], at: usize) -> usize
+    requires { ⌜ (from ≤ length (now list)) × ((length (now list) ≤ listMost) × ((at ≤ listMost + 32) × (answerMost ≤ length (now out)))) ⌝ }
+    ensures { λ r. ⌜ r ≤ at + listMost ⌝ }
+{
+    let end = line::entry_end(list, from);
+    text::put_words(out, at, &list[from..end])
+}
+
+// Whether the entry at next has the first word of the entry at from.
+fn is_alike(list: &[u8], from: usize, next: usize) -> bool
+    requires { ⌜ (from ≤ length (now list)) × (next ≤ length (now list)) ⌝ }
+{
+    let end = from + line::name_len(list, from);
+    line::is_named(list, next, &list[from..end])
+}
+
+// What the words after a known first word should have been: the list's entry at from, and the next one where it has the same first word.
+fn expected(list: &[u8], from: usize, out: &mut [u8]) -> usize
+    requires { ⌜ (from < length (now list)) × ((length (now list) ≤ listMost) × (answerMost ≤ length (now out))) ⌝ }
+    ensures { λ r. ⌜ r < answerMost ⌝ }
+{
+    let start = text::put_words(out, 0, b"error expected ");
+    let end = put_usage(list, from, out, start);
+    let next = line::next_entry(list, from);
+    if !is_alike(list, from, next) {
+        return end;
+    }
+    let or = text::put_words(out, end, b" or ");
+    put_usage(list, next, out, or)
+}
+
+// How long the answer line is: a call that could be made has written it; else it says what is wrong.
+fn say(number: usize, from: usize, len: usize, out: &mut [u8]) -> usize
+    requires { ⌜ (len < answerMost) × (answerMost ≤ length (now out)) ⌝ }
+    ensures { λ r. ⌜ r < answerMost ⌝ }
+{
+    if len != UNREAD {
+        return len;
+    }
+    if number == calls::TOO_LONG {
+        return text::put_words(out, 0, b"error line longer than 32768 bytes");
+    }
+    if CALLS.len() <= from {
+        return text::put_words(out, 0, b"error unknown call");
+    }
+    expected(&CALLS, from, out)
+}
+
+// Writes the answer line with its line feed, and none where nothing is asked: whether it could be written.
+fn tell(number: usize, from: usize, len: usize, out: &mut [u8]) -> bool
+    requires { ⌜ (len < answerMost) × (answerMost ≤ length (now out)) ⌝ }
+{
+    if number == calls::NOTHING {
+        return true;
+    }
+    let n = say(number, from, len, out);
+    out[n] = LINE_FEED;
+    io::write_all(STDOUT_FILENO, &out[..n + 1])
+}
+
+// The call of a number, its words from at on.
+fn run(
+    number: usize,
+    words: &mut [u32],
+    memory: &mut [u8],
+    pending: &mut [u8],
+    asked: &mut [u8],
+    e: Exchange,
+    s: &[u8],
+    at: usize,
+    out: &mut [u8],
+) -> Answer
+    requires { ⌜ (Tables (now words) (now memory) (now pending) × Asked (now s) at (now out)) × ((length (now asked) ≡ lineMost) × Held (e .sent) (e .states)) ⌝ }
+    ensures { λ r. ⌜ Answered (r .len) (r .exchange .sent) (r .exchange .states) (now (out .exit)) ⌝ }
+{
+    if number == calls::REQUEST {
+        return exchange::request(e, s, at, asked, out);
+    }
+    if number == calls::STEP {
+        return exchange::step(e, s, at, asked, out);
+    }
+    let len = calls::call(number, words, memory, pending, s, at, out);
+    Answer { len, exchange: e }
+}
+
+// Reads on, and answers the line if it is whole.
+pub fn go_on(
+    words: &mut [u32],
+    memory: &mut [u8],
+    pending: &mut [u8],
+    asked: &mut [u8],
+    buffer: &mut [u8],
+    text: &mut [u8],
+    out: &mut [u8],
+    state: State,
+) -> State
+    requires { ⌜ Lent (now words) (now memory) (now pending) (now asked) (now text) (now out) × ((state .input .end ≤ length (now buffer)) × Held (state .exchange .sent) (state .exchange .states)) ⌝ }
+    ensures { λ r. ⌜ (r .input .end ≤ length (now (buffer .exit))) × Held (r .exchange .sent) (r .exchange .states) ⌝ }
+{
+    let e = state.exchange;
+    let taken = state.input;
+    let input = input::next(buffer, text, taken);
+    let question = read_line(text, input.n, input.whole);
+    let end = question.end;
+    let did = run(
+        question.number,
+        words,
+        memory,
+        pending,
+        asked,
+        e,
+        &text[..end],
+        question.next,
+        out,
+    );
+    let written = tell(question.number, question.from, did.len, out);
+    let exchange = did.exchange;
+    State {
+        going: written & !input.over,
+        input,
+        exchange,
+    }
+}

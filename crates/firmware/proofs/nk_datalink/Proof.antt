@@ -1,0 +1,22 @@
+-- `firmware::nk_datalink` meets its contract: it is that of the entry below. Assumes nothing.
+use borrow.Author.Needs.{needs}
+use Rattle.firmware.proofs.nk_datalink.Statement.{statement}
+use Rattle.firmware.proofs.nk_datalink.Tie as tie
+
+datalink-requires : tie.Need-datalink-requires
+datalink-requires c κs = search needs
+
+same-length : tie.Need-same-length
+same-length c = search needs
+
+same-length-2 : tie.Need-same-length-2
+same-length-2 c = search needs
+
+same-length-3 : tie.Need-same-length-3
+same-length-3 c = search needs
+
+returns : tie.Need-returns
+returns c = c .before .before .before .before .before .before .datalink .ensures
+
+pub nk-datalink-spec : {M : Type 1} → statement M
+nk-datalink-spec = tie.close (tie.spec datalink-requires same-length same-length-2 same-length-3 returns)

@@ -1,0 +1,19 @@
+-- `firmware::nk_love` meets its contract: it is that of the entry below. Assumes nothing.
+use borrow.Author.Needs.{needs}
+use Rattle.firmware.proofs.nk_love.Statement.{statement}
+use Rattle.firmware.proofs.nk_love.Tie as tie
+
+love-requires : tie.Need-love-requires
+love-requires c κs = search needs
+
+same-length : tie.Need-same-length
+same-length c = search needs
+
+same-length-2 : tie.Need-same-length-2
+same-length-2 c = search needs
+
+returns : tie.Need-returns
+returns c = c .before .before .before .before .love .ensures
+
+pub nk-love-spec : {M : Type 1} → statement M
+nk-love-spec = tie.close (tie.spec love-requires same-length same-length-2 returns)
