@@ -13,3 +13,7 @@ pub record Lent (words memory pending asked text out : List ℕ) : Type 0 where
   pub asked-length : length asked ≡ lineMost
   pub text-length : length text ≡ lineMost
   pub out-length : length out ≡ answerMost
+
+-- the words of an answer line around the usage of a call: "error expected " and " or "
+abbrev pub aroundMost : ℕ
+aroundMost = 19

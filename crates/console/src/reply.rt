@@ -17,7 +17,7 @@ ghost use lib.ListN.{length};
 ghost use Rattle.lines.specs.Lent.{lineMost, answerMost, listMost, Asked};
 ghost use Rattle.tables.specs.Entries.{Tables};
 ghost use Rattle.console.specs.Held.{Held, Answered};
-ghost use Rattle.console.specs.Lent.{Lent};
+ghost use Rattle.console.specs.Lent.{Lent, aroundMost};
 
 // A line that starts with this is a note.
 const NOTE: u8 = b'#';
@@ -84,7 +84,7 @@ fn read_line(text: &[u8], n: usize, whole: bool) -> Question
 
 // The entry of a list at from.
 fn put_usage(list: &[u8], from: usize, out: &mut [u8], at: usize) -> usize
-    requires { ⌜ (from ≤ length (now list)) × ((length (now list) ≤ listMost) × ((at ≤ listMost + 32) × (answerMost ≤ length (now out)))) ⌝ }
+    requires { ⌜ (from ≤ length (now list)) × ((length (now list) ≤ listMost) × ((at ≤ listMost + aroundMost) × (answerMost ≤ length (now out)))) ⌝ }
     ensures { λ r. ⌜ r ≤ at + listMost ⌝ }
 {
     let end = line::entry_end(list, from);

@@ -18,7 +18,7 @@ use Rattle.card.specs.Reply.{WordsReply, onWords, roomLeast}
 use Rattle.card.proofs.Facts.{and-true, allIn-set, fit-tables, fit-words}
 use Rattle.card.proofs.Changed.{demands-changed, parameters-changed}
 use Rattle.card.proofs.Staying.{IsFit, shell-fit, words-reply-fit}
-use Rattle.lucid.specs.Form.{fits, channelsFrom, numberAt}
+use Rattle.lucid.specs.Form.{lengthRight, channelsFrom, numberAt}
 use Rattle.lucid.specs.Frame.{asked}
 use Rattle.lucid.specs.Stages.{Placed}
 use Rattle.lucid.specs.Answer.{demanded, stored, reset, changed, obeyed, lucidWords, lucidReply}
@@ -137,4 +137,4 @@ pub stays-fit : (card : Card) (room : ℕ) (f : List ℕ) → Bytes f → fit ca
 unfolding lucidReply lucidWords
 stays-fit card room f b e =
     shell-fit roomLeast card room _ e
-    (by-choice (λ (r : WordsReply). IsFit (onWords card r)) (fits (length f)) _ _ (λ _. obeyed-fit card f (asked f) b (safe f .0) (safe f .1 .1) e) (λ _. e))
+    (by-choice (λ (r : WordsReply). IsFit (onWords card r)) (lengthRight (length f)) _ _ (λ _. obeyed-fit card f (asked f) b (safe f .0) (safe f .1 .1) e) (λ _. e))

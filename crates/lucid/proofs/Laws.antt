@@ -20,7 +20,7 @@ use Rattle.card.specs.declared.probe.Reading.the-variants.{Fault}
 use Rattle.card.proofs.Facts.{and-true}
 use Rattle.card.proofs.Replies.{shell-keeps}
 use Rattle.card.proofs.Sweep.{at}
-use Rattle.lucid.specs.Form.{fits, channelsFrom, channelsOf, demand}
+use Rattle.lucid.specs.Form.{lengthRight, channelsFrom, channelsOf, demand}
 use Rattle.lucid.specs.Frame.{asked}
 use Rattle.lucid.specs.Answer.{Values, Held, Failed, joined, group, hundredthsOf, valueOf, read, faulted, answerTo, changed, obeyed, lucidWords, lucidReply, named, readsProbe, asksProbe}
 use Rattle.lucid.specs.declared.frame.Order.{Order}
@@ -41,7 +41,7 @@ pub keeps : (card : Card) (room : ℕ) (f : List ℕ) → Keeps card (lucidReply
 unfolding lucidReply lucidWords
 keeps card room f =
     shell-keeps roomLeast card room _
-    (by-choice (λ (r : WordsReply). Keeps card (onWords card r)) (fits (length f)) _ _ (λ _. obeyed-keeps card f (asked f)) (λ _. record { kept = λ _. refl }))
+    (by-choice (λ (r : WordsReply). Keeps card (onWords card r)) (lengthRight (length f)) _ _ (λ _. obeyed-keeps card f (asked f)) (λ _. record { kept = λ _. refl }))
 
 joined-failed : (g : Values) → joined g Failed ≡ Failed
 unfolding joined
@@ -83,7 +83,7 @@ pub fault : (card : Card) (room : ℕ) (f : List ℕ) (channel : ℕ) → channe
     → lucidReply card room f ≡ shell roomLeast card room (sent probeFault (faulted .bytes) card)
 unfolding lucidReply lucidWords asksProbe
 fault card room f channel h a code =
-    let b = and-true (fits (length f)) (readsProbe (asked f) channel) a in
+    let b = and-true (lengthRight (length f)) (readsProbe (asked f) channel) a in
     ap (λ (r : WordsReply). shell roomLeast card room (onWords card r))
     (sym (yes _ _ _ _ (b .0) (sym (order-fault (card .words) (card .memory) f (asked f) channel h (b .1) code))))
 
@@ -131,9 +131,9 @@ order-same ws memory memory′ f (Reset which saved) same = refl
 pub asked-alone : (ws memory memory′ f : List ℕ) → ((channel : ℕ) → channel < channels → asksProbe f channel ≡ true → getD memory channel 0 ≡ getD memory′ channel 0)
     → lucidWords ws memory f ≡ lucidWords ws memory′ f
 unfolding lucidWords asksProbe choose
-asked-alone ws memory memory′ f same = by (fits (length f)) refl
+asked-alone ws memory memory′ f same = by (lengthRight (length f)) refl
   where
-    by : (t : Bool) → fits (length f) ≡ t → lucidWords ws memory f ≡ lucidWords ws memory′ f
+    by : (t : Bool) → lengthRight (length f) ≡ t → lucidWords ws memory f ≡ lucidWords ws memory′ f
     by true e = rw e (order-same ws memory memory′ f (asked f) (λ channel h r. same channel h (rw (e, r))))
     by false e = rw e
 

@@ -8,7 +8,7 @@ use Rattle.wire.proofs.Cases.{yes, no}
 use Rattle.wire.proofs.Buffers.{overlay-none}
 use Rattle.card.specs.Numbers.{frameForm}
 use Rattle.card.specs.Reply.{WordsReply, GaveWords, Answer, Told}
-use Rattle.lucid.specs.Form.{fits}
+use Rattle.lucid.specs.Form.{lengthRight}
 use Rattle.lucid.specs.Frame.{asked}
 use Rattle.lucid.specs.Answer.{answerTo, changed, lucidWords}
 
@@ -25,12 +25,12 @@ given-as {out} {out′} {ws} {number} {len} r q e = subst (λ (x : WordsReply). 
 
 module _ (ws memory f : List ℕ) where
   -- a slice that is no frame
-  pub given-unframed : (out : List ℕ) → fits (length f) ≡ false → GaveWords (lucidWords ws memory f) out frameForm 0 ws out
+  pub given-unframed : (out : List ℕ) → lengthRight (length f) ≡ false → GaveWords (lucidWords ws memory f) out frameForm 0 ws out
   unfolding lucidWords
   given-unframed out h = given-as _ _ (no _ _ _ _ h refl) (record { numbered = refl; measured = refl; written = sym (overlay-none out); worded = refl })
 
   -- what was asked: answered, and done
-  pub given-asked : {out out′ ws′ : List ℕ} {number len : ℕ} → fits (length f) ≡ true → Told (answerTo ws memory (asked f)) out number len out′ → ws′ ≡ changed ws f (asked f)
+  pub given-asked : {out out′ ws′ : List ℕ} {number len : ℕ} → lengthRight (length f) ≡ true → Told (answerTo ws memory (asked f)) out number len out′ → ws′ ≡ changed ws f (asked f)
       → GaveWords (lucidWords ws memory f) out number len ws′ out′
   unfolding lucidWords
   given-asked h t e =

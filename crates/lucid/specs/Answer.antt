@@ -15,7 +15,7 @@ use Rattle.card.specs.Reply.{Reply, WordsReply, Answer, onWords, leaving, roomL
 use Rattle.card.specs.declared.probe.Tenths.{Tenths}
 use Rattle.card.specs.declared.probe.Reading.{Reading}
 use Rattle.card.specs.declared.probe.Reading.the-variants.{Temperature, Fault}
-use Rattle.lucid.specs.Form.{fits, fieldAt, channelsOf, demand, tenths, demandSize, tenthsSize, hundredthsSize, parameterSize, ok, errExecution, little, numberAt}
+use Rattle.lucid.specs.Form.{lengthRight, fieldAt, channelsOf, demand, tenths, demandSize, tenthsSize, hundredthsSize, parameterSize, ok, errExecution, little, numberAt}
 use Rattle.lucid.specs.Frame.{asked}
 use Rattle.lucid.specs.declared.answer.Hundredths.{Hundredths}
 use Rattle.lucid.specs.declared.frame.Order.{Order}
@@ -118,7 +118,7 @@ obeyed ws memory f order = leaving (changed ws f order) (answerTo ws memory orde
 
 -- what the card does with a frame; one shorter than the shortest or longer than the longest is 3, silent
 unfoldable pub lucidWords : List ℕ → List ℕ → List ℕ → WordsReply
-lucidWords ws memory f = choose (fits (length f)) (obeyed ws memory f (asked f)) (leaving ws (record { number = frameForm; bytes = [] }))
+lucidWords ws memory f = choose (lengthRight (length f)) (obeyed ws memory f (asked f)) (leaving ws (record { number = frameForm; bytes = [] }))
 
 -- the entry's whole meaning; room is the answer buffer's length
 unfoldable pub lucidReply : Card → ℕ → List ℕ → Reply
@@ -140,7 +140,7 @@ readsProbe (Reset which saved) channel = false
 
 -- a frame does
 unfoldable pub asksProbe : List ℕ → ℕ → Bool
-asksProbe f channel = fits (length f) && readsProbe (asked f) channel
+asksProbe f channel = lengthRight (length f) && readsProbe (asked f) channel
 
 -- bytes were put at the end of the n bytes held so far
 pub record Grew (bytes values : List ℕ) (n len : ℕ) (values′ : List ℕ) : Type 0 where

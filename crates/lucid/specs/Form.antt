@@ -16,8 +16,8 @@ abbrev pub longest : ℕ
 longest = 259
 
 -- a frame may have n bytes
-abbrev pub fits : ℕ → Bool
-fits n = leb shortest n && leb n longest
+abbrev pub lengthRight : ℕ → Bool
+lengthRight n = leb shortest n && leb n longest
 
 -- where the fields of a frame stand
 abbrev pub opcAt : ℕ

@@ -1,7 +1,7 @@
 // The form of a LucidControl frame: OPC, P1, P2, LEN, data. Document 01, "LucidControl"; names by source document 002.
 ghost use mathlib.Core.Path.{_≡_};
 ghost use Prim.Native.Nat.{_≤_};
-ghost use Rattle.lucid.specs.Form.{fits, hundredthsSize, sizeOf};
+ghost use Rattle.lucid.specs.Form.{lengthRight, hundredthsSize, sizeOf};
 
 pub struct Lucid {}
 
@@ -85,7 +85,7 @@ impl Lucid {
 
     // Whether a frame may have n bytes.
     pub fn fits(n: usize) -> bool
-        ensures { λ r. ⌜ r ≡ fits n ⌝ }
+        ensures { λ r. ⌜ r ≡ lengthRight n ⌝ }
     {
         (Lucid::SHORTEST <= n) & (n <= Lucid::LONGEST)
     }
