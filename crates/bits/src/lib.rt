@@ -108,9 +108,9 @@ pub struct Taken {
 
 // A reader of an image: the image, and the place of its next bit.
 // Its functions are thin, since each is proved by hand; the work is done on a slice and a place.
-pub struct BitReader<'a> {
-    pub image: &'a [u8],
-    pub place: usize,
+struct BitReader<'a> {
+    image: &'a [u8],
+    place: usize,
 }
 
 // The field of `width` bits from a place on, and the place after it.
@@ -124,14 +124,14 @@ fn taken_at(image: &[u8], place: usize, width: usize) -> Taken
     }
 }
 
-pub fn reader_at<'a>(image: &'a [u8], place: usize) -> BitReader<'a>
+fn reader_at<'a>(image: &'a [u8], place: usize) -> BitReader<'a>
     ensures { λ r. ⌜ (r .image ≡ image .entry) × (r .place ≡ place) ⌝ }
 {
     BitReader { image, place }
 }
 
 // The reader's next field of `width` bits, and the reader's place after it.
-pub fn take<'a>(r: BitReader<'a>, width: usize) -> Taken
+fn take<'a>(r: BitReader<'a>, width: usize) -> Taken
     requires { ⌜ Within (now (r .image)) (r .place) width ⌝ }
     ensures { λ t. ⌜ t ≡ taken (now (r .entry .image)) (r .entry .place) width ⌝ }
 {

@@ -1,6 +1,6 @@
 -- `bits::gather` meets its contract. The invariant: the number so far is the field of the bytes passed; it is below 2 ^ 32, with at most four of them. Assumes nothing.
 use Prim.Native.Nat.{_+_, _-_, _*_, _^_, _≤_, _<_}
-use mathlib.Core.Path.{_≡_, refl}
+use mathlib.Core.Path.{_≡_, refl, sym}
 use native.Mathlib.Omega.{arith}
 use lib.Pow.{pow-mono}
 use Rattle.bits.specs.Bits.{field}
@@ -54,13 +54,13 @@ loop-again c =
     let a = c .before .before .before .before .before .args in
     let l = c .before .before .before .loop in
     let g = c .before .shared-slice-known2 .given (a .first + l .i) in
-    (omega arith, cc (field-bytes (a .image .now) (a .first) (l .i) (omega (arith, g)), c .wide .ensures, l .inv .1))
+    (omega arith, rw (c .wide .ensures, l .inv .1) (sym (field-bytes (a .image .now) (a .first) (l .i) (omega (arith, g)))))
 
 returns : tie.Need-returns Inv-loop μ-loop
 returns c =
     let l = c .before .loop in
     let e : l .i ≡ c .before .before .before .args .count = omega arith in
-    cc (l .inv .1)
+    rw (← e) (l .inv .1)
 
 pub gather-spec : {M : Type 1} → statement M
 gather-spec =

@@ -15,7 +15,7 @@ rem-result : tie.Need-rem-result
 rem-result c = omega (arith, c .weight .ensures, pow-pos (c .before .args .width))
 
 returns : tie.Need-returns
-returns c = cc (c .weight .ensures)
+returns c = rw (c .weight .ensures)
 
 pub middle-spec : {M : Type 1} → statement M
 middle-spec = tie.close (tie.spec shr-result weight-requires rem-result returns)

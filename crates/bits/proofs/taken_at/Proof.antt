@@ -12,7 +12,7 @@ add-t5 c = search needs
 
 returns : tie.Need-returns
 unfolding taken
-returns c = cc (c .read-field .ensures)
+returns c = rw (c .read-field .ensures)
 
 pub taken-at-spec : {M : Type 1} → statement M
 taken-at-spec = tie.close (tie.spec read-field-requires add-t5 returns)

@@ -72,7 +72,7 @@ add-result-2 c = omega (arith, product-small c, mod-le (c .before .before .args 
 
 returns : tie.Need-returns
 unfolding withMiddle
-returns c = cc (c .weight2 .ensures, c .before .weight .ensures)
+returns c = rw (c .weight2 .ensures, c .before .weight .ensures)
 
 pub with-middle-spec : {M : Type 1} → statement M
 with-middle-spec =

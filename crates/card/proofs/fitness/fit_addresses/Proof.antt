@@ -12,7 +12,7 @@ love-right-requires c κs = search needs
 
 returns : tie.Need-returns
 unfolding fitAddresses
-returns c = cc (c .love-right .ensures, c .before .lecom-right .ensures)
+returns c = rw (← c .love-right .ensures, ← c .before .lecom-right .ensures)
 
 pub fit-addresses-spec : {M : Type 1} → statement M
 fit-addresses-spec = tie.close (tie.spec lecom-right-requires love-right-requires returns)

@@ -66,7 +66,11 @@ fit-registers-requires c κs = search needs
 
 returns : tie.Need-returns
 unfolding fitWords
-returns c = cc
+returns c =
+    let h = c .before .before in
+    let g = h .before .before in
+    let f = g .before .before in
+    rw (← c .fit-registers .ensures, ← h .fit-parameters .ensures, ← g .all-in2 .ensures, ← f .all-in .ensures, ← f .before .before .fit-addresses .ensures)
 
 pub fit-words-spec : {M : Type 1} → statement M
 fit-words-spec =

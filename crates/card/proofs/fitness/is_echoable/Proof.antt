@@ -15,7 +15,7 @@ names-read-only-requires c κs = search needs
 
 returns : tie.Need-returns
 unfolding echoable
-returns c = cc
+returns c = rw (← c .names-read-only .ensures, ← c .before .in-memory .ensures, ← c .before .before .num-right .ensures)
 
 pub is-echoable-spec : {M : Type 1} → statement M
 is-echoable-spec =
