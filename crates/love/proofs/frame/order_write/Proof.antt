@@ -1,6 +1,6 @@
 -- `love::frame::order_write` meets its contract, test by test. Assumes nothing.
 use borrow.Author.Needs.{needs}
-use Rattle.wire.proofs.Cases.{cases, told-yes}
+use Rattle.wire.proofs.Cases.{cases, yes, no, told-yes, told-no}
 use Rattle.love.specs.Frame.{signRight}
 use Rattle.love.specs.Stages.{orderWrite}
 use Rattle.love.proofs.frame.order_write.Statement.{statement}
@@ -40,11 +40,11 @@ in-span-requires c κs = search needs
 
 returns-3 : tie.Need-returns-3
 unfolding orderWrite signRight
-returns-3 c = rw (← c .before .before .number-in .ensures, ← c .before .before .before .before .before .byte-at .ensures) (search cases)
+returns-3 c = rw (← c .before .before .number-in .ensures, ← c .before .before .before .before .before .byte-at .ensures) (search (yes, no, told-yes, told-no))
 
 returns-4 : tie.Need-returns-4
 unfolding orderWrite signRight
-returns-4 c = rw (← c .before .before .number-in .ensures, ← c .before .before .before .before .before .byte-at .ensures) (search cases)
+returns-4 c = rw (← c .before .before .number-in .ensures, ← c .before .before .before .before .before .byte-at .ensures) (search (yes, no, told-yes, told-no))
 
 pub order-write-spec : {M : Type 1} → statement M
 order-write-spec =

@@ -5,7 +5,7 @@ use Rattle.lucid.proofs.Channels.{channelsLeft, channels-named, channel
 use Rattle.lucid.specs.Answer.{demanded}
 use Rattle.lucid.specs.Form.{channelsOf}
 use lib.ListN.{length, length-set}
-use mathlib.Core.Path.{_≡_, sym, ap, _∙_}
+use mathlib.Core.Path.{_≡_, refl, sym, ap, _∙_}
 use Prim.Native.Nat.{ℕ, _+_, _-_, _*_, _≤_}
 use borrow.Author.Needs.{needs}
 use native.Mathlib.Omega.{arith}
@@ -22,7 +22,7 @@ abbrev μ-loop : tie.MeasureT-loop
 μ-loop words₀ mask f left₀ at₀ channel₀ words left at channel = 4 - channel
 
 loop-holds : tie.Need-loop-holds Inv-loop μ-loop
-loop-holds c = search needs
+loop-holds c = (search needs, (refl, (c .before .before .pre .1, refl)))
 
 pair-requires : tie.Need-pair-requires Inv-loop μ-loop
 pair-requires c κs = let l = c .before .before .loop in omega (arith, ap length (channels-named (l .channel) (l .left) (c .before .loop-test .taken) (c .if1 .taken)))

@@ -1,6 +1,6 @@
 -- `lucid::answer::store` meets its contract. Assumes nothing.
 use Rattle.lucid.specs.Answer.{stored}
-use Rattle.wire.proofs.Cases.{cases}
+use Rattle.wire.proofs.Cases.{yes, no}
 use lib.ListN.{length-set}
 use native.Mathlib.Omega.{arith}
 use borrow.Author.Needs.{needs}
@@ -30,14 +30,14 @@ same-length c = search needs
 
 returns : tie.Need-returns
 unfolding stored
-returns c = search cases
+returns c = search (yes, no)
 
 same-length-2 : tie.Need-same-length-2
 same-length-2 c = search needs
 
 returns-2 : tie.Need-returns-2
 unfolding stored
-returns-2 c = search cases
+returns-2 c = search (yes, no)
 
 pub store-spec : {M : Type 1} → statement M
 store-spec =
