@@ -2,6 +2,7 @@
 ghost use mathlib.Core.Path.{_≡_};
 ghost use Prim.Native.Nat.{_+_, _<_, _≤_};
 ghost use lib.ListN.{length};
+ghost use Rattle.wire.specs.Choose.{choose};
 ghost use Rattle.wire.specs.Buffer.{put};
 ghost use Rattle.figures.specs.Figure.{base, inRange, figureOf, charOf, allFigures, pairByte, pairOf};
 ghost use Rattle.figures.specs.Decimal.{digits, sizeOf, valueOf, longestValue};
@@ -150,7 +151,7 @@ pub fn value(s: &[u8]) -> u64
     v
 }
 
-pub fn is_negative(w: u32) -> bool
+fn is_negative(w: u32) -> bool
     ensures { λ r. ⌜ r ≡ isNegative w ⌝ }
 {
     HALF <= w
@@ -164,6 +165,16 @@ pub fn magnitude(w: u32) -> u32
         return u32::MAX - w + 1;
     }
     w
+}
+
+// One of two bytes, by the sign of a word.
+pub fn by_sign(w: u32, negative: u8, positive: u8) -> u8
+    ensures { λ r. ⌜ r ≡ choose (isNegative w) negative positive ⌝ }
+{
+    if is_negative(w) {
+        return negative;
+    }
+    positive
 }
 
 // The word of m, or of minus m; minus zero is zero.

@@ -1,6 +1,5 @@
 -- Laws of specs/Answer.antt: a reply as it is written, part after part. Assumes nothing.
 use mathlib.Core.Path.{_≡_, refl, ap, _∙_}
-use mathlib.Core.Bool.{true, false}
 use mathlib.Core.List.{List, [], _∷_, _++_}
 use Prim.Native.Nat.{ℕ, _+_, _-_, _%_, _≤_}
 use native.Mathlib.Omega.{arith}
@@ -86,19 +85,15 @@ module _ (address : ℕ) (out : List ℕ) where
         written = p .1 ∙ rw (s, w, n) (overlay-put (stx ∷ body) t out);
       }
 
--- what 00 is answered at a fault, and for each sign of a temperature
+-- what 00 is answered at a fault, and at a temperature
 module _ (reading : Reading) where
   pub status-fault : reading ≡ Fault → statusField faultChar zeroChar 0 ≡ probeField reading
   unfolding probeField
   status-fault e = rw e
 
-  pub status-negative : (tenths : Tenths) → reading ≡ Temperature tenths → isNegative (tenths .0) ≡ true → statusField fineChar negativeChar (magnitude (tenths .0)) ≡ probeField reading
-  unfolding probeField choose
-  status-negative tenths e h = rw (e, h)
-
-  pub status-positive : (tenths : Tenths) → reading ≡ Temperature tenths → isNegative (tenths .0) ≡ false → statusField fineChar zeroChar (magnitude (tenths .0)) ≡ probeField reading
-  unfolding probeField choose
-  status-positive tenths e h = rw (e, h)
+  pub status-temperature : (tenths : Tenths) → reading ≡ Temperature tenths → statusField fineChar (choose (isNegative (tenths .0)) negativeChar zeroChar) (magnitude (tenths .0)) ≡ probeField reading
+  unfolding probeField
+  status-temperature tenths e = rw e
 
 -- a reply of which the bytes were written
 pub gave-wrote : (reply : WordsReply) (out : List ℕ) {len : ℕ} {words out′ : List ℕ} → words ≡ reply .words → Wrote (reply .bytes) out len out′ → GaveWords reply out (reply .number) len words out′

@@ -99,10 +99,7 @@ fn put_written(out: &mut [u8], address: u32) -> usize
 fn sign_of(word: u32) -> u8
     ensures { λ r. ⌜ r ≡ signOf word ⌝ }
 {
-    if figures::is_negative(word) {
-        return NEGATIVE;
-    }
-    POSITIVE
+    figures::by_sign(word, NEGATIVE, POSITIVE)
 }
 
 // Writes the reply to a read.
@@ -139,11 +136,8 @@ fn put_probe(out: &mut [u8], address: u32, code: u8) -> usize
         return put_status(out, address, FAULT, ZERO, 0);
     };
     let word = tenths.word();
-    let number = figures::magnitude(word);
-    if figures::is_negative(word) {
-        return put_status(out, address, FINE, BELOW_ZERO, number);
-    }
-    put_status(out, address, FINE, ZERO, number)
+    let fourth = figures::by_sign(word, BELOW_ZERO, ZERO);
+    put_status(out, address, FINE, fourth, figures::magnitude(word))
 }
 
 // Stores a parameter.

@@ -1,6 +1,7 @@
 -- `figures::figure` meets its contract: its tests are those of the definition, and a range's lower bound is what each difference needs. Assumes nothing.
 use native.Mathlib.Omega.{arith}
-use Rattle.wire.proofs.Cases.{cases, told-true}
+use mathlib.Core.Path.{refl}
+use Rattle.wire.proofs.Cases.{cases, yes, no, told-true, told-false}
 use Rattle.figures.specs.Figure.{figureOf}
 use Rattle.figures.proofs.Characters.{in-range}
 use borrow.Author.Needs.{needs}
@@ -44,7 +45,11 @@ add-result-3 c = search needs
 
 returns-3 : tie.Need-returns-3
 unfolding figureOf
-returns-3 c = search cases
+returns-3 c =
+    let second = c .before .before in
+    let first = second .before .before in
+    no _ _ _ _ (told-false (first .before .in-range .ensures) (first .if1 .left))
+    (no _ _ _ _ (told-false (second .before .in-range2 .ensures) (second .if2 .left)) (yes _ _ _ _ (told-true (c .before .in-range3 .ensures) (c .if3 .taken)) refl))
 
 returns-4 : tie.Need-returns-4
 unfolding figureOf

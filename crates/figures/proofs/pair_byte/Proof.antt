@@ -1,5 +1,7 @@
 -- `figures::pair_byte` meets its contract. Assumes nothing.
-use Rattle.wire.proofs.Cases.{cases}
+use mathlib.Core.Path.{refl}
+use borrow.Author.Tests.{lt-leb}
+use Rattle.wire.proofs.Cases.{cases, no}
 use Rattle.figures.specs.Figure.{pairByte}
 use borrow.Author.Needs.{needs}
 use Rattle.figures.proofs.pair_byte.Statement.{statement}
@@ -33,7 +35,7 @@ add-result c = search needs
 
 returns-3 : tie.Need-returns-3
 unfolding pairByte
-returns-3 c = rw (pairByte, ← c .before .before .before .figure .ensures, ← c .before .figure2 .ensures) (search cases)
+returns-3 c = rw (pairByte, ← c .before .before .before .figure .ensures, ← c .before .figure2 .ensures) (no _ _ _ _ (lt-leb _ _ (c .before .before .if1 .left)) (no _ _ _ _ (lt-leb _ _ (c .if2 .left)) refl))
 
 pub pair-byte-spec : {M : Type 1} → statement M
 pair-byte-spec =

@@ -1,7 +1,7 @@
 -- `figures::parse_figures` meets its contract. Assumes nothing.
 use mathlib.Core.Path.{refl, sym, ap, _∙_}
 use mathlib.Core.Bool.{not}
-use borrow.Author.Tests.{ne-eqb}
+use borrow.Author.Tests.{ne-eqb, lt-ltb}
 use Rattle.wire.proofs.Cases.{cases, yes, no}
 use Rattle.figures.specs.Signed.{figuresOf}
 use borrow.Author.Needs.{needs}
@@ -29,7 +29,7 @@ unfolding figuresOf
 returns-3 c =
     no _ _ _ _ (ne-eqb _ _ (c .before .before .before .before .if1 .left))
     (no _ _ _ _ (ap not (sym (c .before .before .before .all-figures .ensures)) ∙ c .before .before .if2 .left)
-    (rw (← c .before .value .ensures) (search cases)))
+    (rw (← c .before .value .ensures) (yes _ _ _ _ (lt-ltb _ _ (c .if3 .taken)) refl)))
 
 cast-with-sign : tie.Need-cast-with-sign
 cast-with-sign c = search needs

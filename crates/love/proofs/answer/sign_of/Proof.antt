@@ -1,20 +1,15 @@
 -- `love::answer::sign_of` meets its contract. Assumes nothing.
 use borrow.Author.Needs.{needs}
-use Rattle.wire.proofs.Cases.{cases}
 use Rattle.love.specs.Answer.{signOf}
 use Rattle.love.proofs.answer.sign_of.Statement.{statement}
 use Rattle.love.proofs.answer.sign_of.Tie as tie
 
-is-negative-requires : tie.Need-is-negative-requires
-is-negative-requires c κs = search needs
+by-sign-requires : tie.Need-by-sign-requires
+by-sign-requires c κs = search needs
 
 returns : tie.Need-returns
 unfolding signOf
-returns c = search cases
-
-returns-2 : tie.Need-returns-2
-unfolding signOf
-returns-2 c = search cases
+returns c = c .by-sign .ensures
 
 pub sign-of-spec : {M : Type 1} → statement M
-sign-of-spec = tie.close (tie.spec is-negative-requires returns returns-2)
+sign-of-spec = tie.close (tie.spec by-sign-requires returns)
