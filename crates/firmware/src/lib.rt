@@ -1,4 +1,5 @@
 // The card's entries for firmware in C: thin, each with the whole contract of the entry below it. include/nakshvilor.h describes them.
+use card::Outcome;
 use card::governor::Governor;
 use card::numbers::ANSWERED;
 use card::numbers::PROBE_FAULT;
@@ -17,7 +18,7 @@ ghost use Rattle.lucid.specs.Answer.{lucidReply};
 ghost use Rattle.image.specs.Entries.{writeImage, readImage};
 ghost use Rattle.master.specs.Request.{requestOf};
 ghost use Rattle.master.specs.Step.{stepOf};
-ghost use Rattle.firmware.specs.Lent.{degreesIn};
+ghost use Rattle.firmware.specs.Lent.{Handed, degreesIn};
 ghost use Rattle.firmware.specs.Phases.{codeOf, phaseOf, kindOf, SteppedTo};
 
 #[no_mangle]
@@ -70,6 +71,14 @@ pub extern "C" fn nk_governor(
     )
 }
 
+// Hands an outcome over: the answer's length is stored, and the number returned.
+fn hand_over(given: Outcome, len: &mut usize) -> u8
+    ensures { λ r. ⌜ Handed (given .number) (given .len) r (now (len .exit)) ⌝ }
+{
+    *len = given.len;
+    given.number
+}
+
 #[no_mangle]
 pub extern "C" fn nk_datalink(
     words: &[u32],
@@ -82,8 +91,7 @@ pub extern "C" fn nk_datalink(
     ensures { λ r. ⌜ Gave (datalinkReply (cardOf (now (words .entry)) (now (memory .entry)) (now (pending .entry))) (length (now (answer .entry))) (now (frame .entry))) (now (answer .entry)) r (now (len .exit)) (now (words .entry)) (now (memory .exit)) (now (pending .exit)) (now (answer .exit)) ⌝ }
 {
     let given = datalink::datalink(words, memory, pending, frame, answer);
-    *len = given.len;
-    given.number
+    hand_over(given, len)
 }
 
 #[no_mangle]
@@ -98,8 +106,7 @@ pub extern "C" fn nk_lecom(
     ensures { λ r. ⌜ Gave (lecomReply (cardOf (now (words .entry)) (now (memory .entry)) (now (pending .entry))) (length (now (answer .entry))) (now (frame .entry))) (now (answer .entry)) r (now (len .exit)) (now (words .exit)) (now (memory .entry)) (now (pending .entry)) (now (answer .exit)) ⌝ }
 {
     let given = lecom::lecom(words, memory, pending, frame, answer);
-    *len = given.len;
-    given.number
+    hand_over(given, len)
 }
 
 #[no_mangle]
@@ -114,8 +121,7 @@ pub extern "C" fn nk_love(
     ensures { λ r. ⌜ Gave (loveReply (cardOf (now (words .entry)) (now (memory .entry)) (now (pending .entry))) (length (now (answer .entry))) (now (frame .entry))) (now (answer .entry)) r (now (len .exit)) (now (words .exit)) (now (memory .entry)) (now (pending .entry)) (now (answer .exit)) ⌝ }
 {
     let given = love::love(words, memory, pending, frame, answer);
-    *len = given.len;
-    given.number
+    hand_over(given, len)
 }
 
 #[no_mangle]
@@ -130,8 +136,7 @@ pub extern "C" fn nk_lucid(
     ensures { λ r. ⌜ Gave (lucidReply (cardOf (now (words .entry)) (now (memory .entry)) (now (pending .entry))) (length (now (answer .entry))) (now (frame .entry))) (now (answer .entry)) r (now (len .exit)) (now (words .exit)) (now (memory .entry)) (now (pending .entry)) (now (answer .exit)) ⌝ }
 {
     let given = lucid::lucid(words, memory, pending, frame, answer);
-    *len = given.len;
-    given.number
+    hand_over(given, len)
 }
 
 #[no_mangle]
@@ -145,8 +150,7 @@ pub extern "C" fn nk_write_image(
     ensures { λ r. ⌜ Gave (writeImage (cardOf (now (words .entry)) (now (memory .entry)) (now (pending .entry))) (length (now (image .entry)))) (now (image .entry)) r (now (len .exit)) (now (words .entry)) (now (memory .entry)) (now (pending .entry)) (now (image .exit)) ⌝ }
 {
     let given = image::write_image(words, memory, pending, image);
-    *len = given.len;
-    given.number
+    hand_over(given, len)
 }
 
 #[no_mangle]
@@ -233,7 +237,7 @@ pub extern "C" fn nk_step(
 ) -> u8
     ensures { λ r. ⌜ SteppedTo (stepOf (requestOf (kindOf kind) ia address (now (sent .entry)) (now (states .entry))) (phaseOf (now (phase .entry))) (now (answer .entry)) (length (now (frame .entry)))) (now (frame .entry)) r (now (len .exit)) (now (phase .exit)) (now (frame .exit)) ⌝ }
 {
-    let given = master::step(
+    let went = master::step(
         phase_of(*phase),
         kind_of(kind),
         ia,
@@ -243,8 +247,8 @@ pub extern "C" fn nk_step(
         answer,
         frame,
     );
-    let next = given.phase;
+    let next = went.phase;
     *phase = code_of(next);
-    *len = given.len;
-    given.number
+    *len = went.len;
+    went.number
 }

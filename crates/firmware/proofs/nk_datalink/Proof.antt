@@ -6,6 +6,9 @@ use Rattle.firmware.proofs.nk_datalink.Tie as tie
 datalink-requires : tie.Need-datalink-requires
 datalink-requires c κs = search needs
 
+hand-over-requires : tie.Need-hand-over-requires
+hand-over-requires c κs = search needs
+
 same-length : tie.Need-same-length
 same-length c = search needs
 
@@ -16,7 +19,7 @@ same-length-3 : tie.Need-same-length-3
 same-length-3 c = search needs
 
 returns : tie.Need-returns
-returns c = c .before .before .before .before .before .before .datalink .ensures
+returns c = rw (c .hand-over .ensures .numbered, c .hand-over .ensures .measured) (c .before .before .before .before .before .before .before .before .datalink .ensures)
 
 pub nk-datalink-spec : {M : Type 1} → statement M
-nk-datalink-spec = tie.close (tie.spec datalink-requires same-length same-length-2 same-length-3 returns)
+nk-datalink-spec = tie.close (tie.spec datalink-requires hand-over-requires same-length same-length-2 same-length-3 returns)

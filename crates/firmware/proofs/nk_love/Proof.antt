@@ -6,6 +6,9 @@ use Rattle.firmware.proofs.nk_love.Tie as tie
 love-requires : tie.Need-love-requires
 love-requires c κs = search needs
 
+hand-over-requires : tie.Need-hand-over-requires
+hand-over-requires c κs = search needs
+
 same-length : tie.Need-same-length
 same-length c = search needs
 
@@ -13,7 +16,7 @@ same-length-2 : tie.Need-same-length-2
 same-length-2 c = search needs
 
 returns : tie.Need-returns
-returns c = c .before .before .before .before .love .ensures
+returns c = rw (c .hand-over .ensures .numbered, c .hand-over .ensures .measured) (c .before .before .before .before .before .before .love .ensures)
 
 pub nk-love-spec : {M : Type 1} → statement M
-nk-love-spec = tie.close (tie.spec love-requires same-length same-length-2 returns)
+nk-love-spec = tie.close (tie.spec love-requires hand-over-requires same-length same-length-2 returns)
