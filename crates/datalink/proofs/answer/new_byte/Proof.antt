@@ -1,8 +1,9 @@
 -- `datalink::answer::new_byte` meets its contract, test by test. Assumes nothing.
-use Rattle.wire.proofs.Cases.{cases}
+use Rattle.wire.proofs.Cases.{yes, no}
 use native.Mathlib.Omega.{arith}
 use Rattle.datalink.specs.Answer.{newByte}
 use borrow.Author.Needs.{needs}
+use borrow.Author.Tests.{eq-eqb, ne-eqb}
 use Rattle.datalink.proofs.answer.new_byte.Statement.{statement}
 use Rattle.datalink.proofs.answer.new_byte.Tie as tie
 
@@ -23,14 +24,14 @@ shared-slice-read-result-2 c = omega (arith, c .before .before .before .pre .1 (
 
 returns : tie.Need-returns
 unfolding newByte
-returns c = search cases
+returns c = search (yes, no, eq-eqb, ne-eqb)
 
 shared-slice-read-result-3 : tie.Need-shared-slice-read-result-3
 shared-slice-read-result-3 c = search needs
 
 returns-2 : tie.Need-returns-2
 unfolding newByte
-returns-2 c = search cases
+returns-2 c = search (yes, no, eq-eqb, ne-eqb)
 
 pub new-byte-spec : {M : Type 1} → statement M
 new-byte-spec =

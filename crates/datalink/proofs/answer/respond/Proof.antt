@@ -18,7 +18,7 @@ same-length c = search needs
 
 returns : tie.Need-returns
 unfolding response
-returns c = search needs
+returns c = c .before .before .write-frame .ensures
 
 pub respond-spec : {M : Type 1} → statement M
 respond-spec = tie.close (tie.spec cast-second add-second write-frame-requires same-length returns)

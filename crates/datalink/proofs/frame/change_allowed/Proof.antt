@@ -9,7 +9,7 @@ names-read-only-requires c κs = search needs
 
 returns : tie.Need-returns
 unfolding changeAllowed
-returns c = cc
+returns c = rw (← c .names-read-only .ensures)
 
 pub change-allowed-spec : {M : Type 1} → statement M
 change-allowed-spec = tie.close (tie.spec names-read-only-requires returns)

@@ -27,7 +27,7 @@ shared-slice-read-result c = search needs
 
 returns : tie.Need-returns
 unfolding lrcRight isAcknowledge
-returns c = cc
+returns c = rw (← c .before .before .before .command-in .ensures, ← c .before .sum .ensures)
 
 pub lrc-right-spec : {M : Type 1} → statement M
 lrc-right-spec =

@@ -1,9 +1,10 @@
 -- `lecom::answer::write` meets its contract, test by test. Assumes nothing.
-use Rattle.wire.proofs.Cases.{cases}
+use Rattle.wire.proofs.Cases.{yes, no}
 use native.Mathlib.Omega.{arith}
 use mathlib.Core.Logic.{inl}
 use Rattle.lecom.specs.Answer.{written, activated, stored}
 use borrow.Author.Needs.{needs}
+use borrow.Author.Tests.{lt-ltb, le-ltb, eq-eqb, ne-eqb}
 use Rattle.lecom.proofs.answer.write.Statement.{statement}
 use Rattle.lecom.proofs.answer.write.Tie as tie
 
@@ -21,11 +22,11 @@ same-length c = search needs
 
 returns : tie.Need-returns
 unfolding written
-returns c = search cases
+returns c = search (yes, lt-ltb)
 
 returns-2 : tie.Need-returns-2
 unfolding written
-returns-2 c = search cases
+returns-2 c = search (yes, no, le-ltb, eq-eqb)
 
 move-words-requires : tie.Need-move-words-requires
 move-words-requires c κs = ((omega arith, omega arith), inl (omega arith))
@@ -35,7 +36,7 @@ same-length-2 c = search needs
 
 returns-3 : tie.Need-returns-3
 unfolding written activated
-returns-3 c = search cases
+returns-3 c = search (yes, no, le-ltb, eq-eqb, ne-eqb)
 
 move-words-requires-2 : tie.Need-move-words-requires-2
 move-words-requires-2 c κs = ((omega arith, omega arith), inl (omega arith))
@@ -45,7 +46,7 @@ same-length-3 c = search needs
 
 returns-4 : tie.Need-returns-4
 unfolding written stored
-returns-4 c = search cases
+returns-4 c = search (no, le-ltb, ne-eqb)
 
 pub write-spec : {M : Type 1} → statement M
 write-spec =
