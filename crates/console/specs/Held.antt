@@ -1,16 +1,13 @@
 -- The line master's request that the console keeps, and what a call leaves of it.
 use Prim.Native.Nat.{ℕ, _≤_, _<_}
-use mathlib.Core.List.{List}
-use lib.ListN.{length}
 use Rattle.lines.specs.Lent.{bytesMost, answerMost}
 
--- a request's bytes, or masks, and its states stand in the two halves of their buffer
+-- a request's bytes, or masks, and its states fit their buffers
 pub record Held (sent states : ℕ) : Type 0 where
   pub front : sent ≤ bytesMost
   pub back : states ≤ bytesMost
 
--- what a call leaves: the length of its line, room for the line feed, and the request's counts in their range
-pub record Answered (len sent states : ℕ) (out : List ℕ) : Type 0 where
+-- what a call leaves: the length of its line, with room for the line feed, and the request's counts in their range
+pub record Answered (len sent states : ℕ) : Type 0 where
   pub short : len < answerMost
-  pub room : answerMost ≤ length out
   pub held : Held sent states

@@ -1,18 +1,17 @@
--- What the console keeps while it runs: the card's tables, the request's bytes, the line so far and the answer line.
-use Prim.Native.Nat.{ℕ}
-use mathlib.Core.Path.{_≡_}
+-- What the console lends: the line that is read, and how long the buffers are.
+use Prim.Native.Nat.{ℕ, _≤_}
 use mathlib.Core.List.{List}
 use lib.ListN.{length}
-use Rattle.card.specs.Layout.{wordCount, memorySize, pendingSize}
-use Rattle.lines.specs.Lent.{lineMost, answerMost}
+use Rattle.lines.specs.Lent.{lineMost}
 
-pub record Lent (words memory pending asked text out : List ℕ) : Type 0 where
-  pub words-length : length words ≡ wordCount
-  pub memory-length : length memory ≡ memorySize
-  pub pending-length : length pending ≡ pendingSize
-  pub asked-length : length asked ≡ lineMost
-  pub text-length : length text ≡ lineMost
-  pub out-length : length out ≡ answerMost
+-- a line that is no longer than one can be, read from a place in it
+pub record Line (s : List ℕ) (at : ℕ) : Type 0 where
+  pub inside : at ≤ length s
+  pub short : length s ≤ lineMost
+
+-- how many bytes are read from the input at once
+abbrev pub readMost : ℕ
+readMost = 4096
 
 -- the words of an answer line around the usage of a call: "error expected " and " or "
 abbrev pub aroundMost : ℕ

@@ -1,21 +1,25 @@
 // The line master that the console keeps: request and step.
+use crate::arguments;
+use crate::calls::STEP;
+use lines::ANSWER_MOST;
 use lines::BYTES_MOST;
 use lines::ROOM_MOST;
 use lines::UNREAD;
 use lines::line;
 use lines::text;
 use master::Phase;
+use master::StepOutcome;
 use master::Verdict;
 use master::request::Kind;
-ghost use mathlib.Core.Path.{_≡_};
-ghost use Prim.Native.Nat.{_+_, _≤_, _<_};
+ghost use Prim.Native.Nat.{_+_, _≤_};
 ghost use lib.ListN.{length, take};
-ghost use Rattle.lines.specs.Lent.{lineMost, bytesMost, answerMost, roomMost, Asked};
+ghost use Rattle.lines.specs.Lent.{answerMost, roomMost};
 ghost use Rattle.lines.specs.Text.{Put};
 ghost use Rattle.console.specs.Held.{Held, Answered};
+ghost use Rattle.console.specs.Lent.{Line};
 ghost use Rattle.console.specs.Stepped.{verdictMost, verdictOf, stepped, steppedMost};
 
-// A request and how far its exchange went. The bytes asked for, or the masks, stand at the front of a lent buffer, states from its middle on.
+// A request and how far its exchange went. The bytes asked for, or the masks, and the states stand at the front of two lent buffers.
 pub struct Exchange {
     pub asked: bool,
     pub kind: Kind,
@@ -55,8 +59,14 @@ struct Sent {
 }
 
 // BYTES, or MASKS / STATES, which go to two buffers.
-fn read_sent(s: &[u8], at: usize, is_bits: bool, to: &mut [u8], back: &mut [u8]) -> Sent
-    requires { ⌜ ((at ≤ length (now s)) × (length (now s) ≤ lineMost)) × ((length (now to) ≡ bytesMost) × (length (now back) ≡ bytesMost)) ⌝ }
+fn read_sent(
+    s: &[u8],
+    at: usize,
+    is_bits: bool,
+    to: &mut [u8; BYTES_MOST],
+    back: &mut [u8; BYTES_MOST],
+) -> Sent
+    requires { ⌜ Line (now s) at ⌝ }
     ensures { λ r. ⌜ Held (r .sent) (r .states) ⌝ }
 {
     let sent = line::read_bytes(s, at, to);
@@ -85,8 +95,13 @@ fn kind_of(is_bits: bool) -> Kind {
 }
 
 // The request that a line asks for; where it cannot be read, none is asked.
-fn read_request(s: &[u8], at: usize, to: &mut [u8], back: &mut [u8]) -> Exchange
-    requires { ⌜ ((at ≤ length (now s)) × (length (now s) ≤ lineMost)) × ((length (now to) ≡ bytesMost) × (length (now back) ≡ bytesMost)) ⌝ }
+fn read_request(
+    s: &[u8],
+    at: usize,
+    to: &mut [u8; BYTES_MOST],
+    back: &mut [u8; BYTES_MOST],
+) -> Exchange
+    requires { ⌜ Line (now s) at ⌝ }
     ensures { λ r. ⌜ Held (r .sent) (r .states) ⌝ }
 {
     let how = line::read_name(s, at, b"change; bits");
@@ -106,18 +121,17 @@ fn read_request(s: &[u8], at: usize, to: &mut [u8], back: &mut [u8]) -> Exchange
     }
 }
 
-// Keeps a request's bytes, or masks, and its states.
-fn keep(sent: &[u8], states: &[u8], asked: &mut [u8])
-    requires { ⌜ ((length (now sent) ≡ bytesMost) × (length (now states) ≡ bytesMost)) × (length (now asked) ≡ lineMost) ⌝ }
-{
-    wire::copy(sent, asked, 0);
-    wire::copy(states, asked, BYTES_MOST);
-}
-
 // request change IA ADDRESS BYTES or request bits IA ADDRESS MASKS / STATES
-pub fn request(e: Exchange, s: &[u8], at: usize, asked: &mut [u8], out: &mut [u8]) -> Answer
-    requires { ⌜ Asked (now s) at (now out) × ((length (now asked) ≡ lineMost) × Held (e .sent) (e .states)) ⌝ }
-    ensures { λ r. ⌜ Answered (r .len) (r .exchange .sent) (r .exchange .states) (now (out .exit)) ⌝ }
+pub fn request(
+    e: Exchange,
+    s: &[u8],
+    at: usize,
+    sent: &mut [u8; BYTES_MOST],
+    states: &mut [u8; BYTES_MOST],
+    out: &mut [u8; ANSWER_MOST],
+) -> Answer
+    requires { ⌜ Line (now s) at × Held (e .sent) (e .states) ⌝ }
+    ensures { λ r. ⌜ Answered (r .len) (r .exchange .sent) (r .exchange .states) ⌝ }
 {
     let mut f = [0u8; BYTES_MOST];
     let mut g = [0u8; BYTES_MOST];
@@ -128,14 +142,15 @@ pub fn request(e: Exchange, s: &[u8], at: usize, asked: &mut [u8], out: &mut [u8
             exchange: e,
         };
     }
-    keep(&f, &g, asked);
+    *sent = f;
+    *states = g;
     let len = text::put_words(out, 0, b"ok");
     Answer { len, exchange: new }
 }
 
 // What the master says, after a space.
-fn put_verdict(out: &mut [u8], at: usize, verdict: Verdict) -> usize
-    requires { ⌜ at + verdictMost ≤ length (now out) ⌝ }
+fn put_verdict(out: &mut [u8; ANSWER_MOST], at: usize, verdict: Verdict) -> usize
+    requires { ⌜ at + verdictMost ≤ answerMost ⌝ }
     ensures { λ r. ⌜ Put verdictMost at (verdictOf verdict) (now (out .entry)) r (now (out .exit)) ⌝ }
 {
     match verdict {
@@ -146,8 +161,14 @@ fn put_verdict(out: &mut [u8], at: usize, verdict: Verdict) -> usize
 }
 
 // The line of a master's step, with the first len bytes of frame.
-fn tell_step(out: &mut [u8], number: u8, verdict: Verdict, frame: &[u8], len: usize) -> usize
-    requires { ⌜ ((len ≤ length (now frame)) × (length (now frame) ≤ roomMost)) × (steppedMost ≤ length (now out)) ⌝ }
+fn tell_step(
+    out: &mut [u8; ANSWER_MOST],
+    number: u8,
+    verdict: Verdict,
+    frame: &[u8],
+    len: usize,
+) -> usize
+    requires { ⌜ (len ≤ length (now frame)) × (length (now frame) ≤ roomMost) ⌝ }
     ensures { λ r. ⌜ Put steppedMost 0 (stepped number verdict (take len (now (frame .entry)))) (now (out .entry)) r (now (out .exit)) ⌝ }
 {
     let at = text::put_number(out, 0, number as u32);
@@ -155,51 +176,79 @@ fn tell_step(out: &mut [u8], number: u8, verdict: Verdict, frame: &[u8], len: us
     text::put_bytes(out, said, &frame[..len])
 }
 
-// A step that could be read, with what was heard and the room for a frame.
-fn take_step(e: Exchange, asked: &[u8], heard: &[u8], frame: &mut [u8], out: &mut [u8]) -> Answer
-    requires { ⌜ (Held (e .sent) (e .states) × (length (now asked) ≡ lineMost)) × ((length (now frame) ≤ roomMost) × (answerMost ≤ length (now out))) ⌝ }
-    ensures { λ r. ⌜ Answered (r .len) (r .exchange .sent) (r .exchange .states) (now (out .exit)) ⌝ }
+// The master's step, with what was heard and the room for a frame.
+fn go(e: Exchange, sent: &[u8], states: &[u8], heard: &[u8], frame: &mut [u8]) -> StepOutcome
+    requires { ⌜ (e .sent ≤ length (now sent)) × (e .states ≤ length (now states)) ⌝ }
+    ensures { λ r. ⌜ r .len ≤ length (now (frame .exit)) ⌝ }
 {
-    let kind = e.kind;
     let phase = e.phase;
-    let sent = e.sent;
-    let end = BYTES_MOST + e.states;
-    let went = master::step(
+    let kind = e.kind;
+    let n = e.sent;
+    let m = e.states;
+    master::step(
         phase,
         kind,
         e.ia,
         e.address,
-        &asked[..sent],
-        &asked[BYTES_MOST..end],
+        &sent[..n],
+        &states[..m],
         heard,
         frame,
-    );
-    let next = went.phase;
-    let len = tell_step(out, went.number, master::says(next), frame, went.len);
-    Answer {
-        len,
-        exchange: Exchange {
-            asked: true,
-            kind,
-            ia: e.ia,
-            address: e.address,
-            sent,
-            states: e.states,
-            phase: next,
-        },
+    )
+}
+
+// The exchange when it has come to a phase.
+fn come_to(e: Exchange, phase: Phase) -> Exchange
+    requires { ⌜ Held (e .sent) (e .states) ⌝ }
+    ensures { λ r. ⌜ Held (r .sent) (r .states) ⌝ }
+{
+    let kind = e.kind;
+    Exchange {
+        asked: e.asked,
+        kind,
+        ia: e.ia,
+        address: e.address,
+        sent: e.sent,
+        states: e.states,
+        phase,
     }
 }
 
+// A step that could be read, with what was heard.
+fn take_step(
+    e: Exchange,
+    sent: &[u8; BYTES_MOST],
+    states: &[u8; BYTES_MOST],
+    heard: &[u8],
+    room: usize,
+    out: &mut [u8; ANSWER_MOST],
+) -> Answer
+    requires { ⌜ Held (e .sent) (e .states) × (room ≤ roomMost) ⌝ }
+    ensures { λ r. ⌜ Answered (r .len) (r .exchange .sent) (r .exchange .states) ⌝ }
+{
+    let mut frame = [0u8; ROOM_MOST];
+    let went = go(e, sent, states, heard, &mut frame[..room]);
+    let phase = went.phase;
+    let len = tell_step(out, went.number, master::says(phase), &frame, went.len);
+    let exchange = come_to(e, phase);
+    Answer { len, exchange }
+}
+
 // step ROOM BYTES
-pub fn step(e: Exchange, s: &[u8], at: usize, asked: &[u8], out: &mut [u8]) -> Answer
-    requires { ⌜ Asked (now s) at (now out) × ((length (now asked) ≡ lineMost) × Held (e .sent) (e .states)) ⌝ }
-    ensures { λ r. ⌜ Answered (r .len) (r .exchange .sent) (r .exchange .states) (now (out .exit)) ⌝ }
+pub fn step(
+    e: Exchange,
+    s: &[u8],
+    at: usize,
+    sent: &[u8; BYTES_MOST],
+    states: &[u8; BYTES_MOST],
+    out: &mut [u8; ANSWER_MOST],
+) -> Answer
+    requires { ⌜ Line (now s) at × Held (e .sent) (e .states) ⌝ }
+    ensures { λ r. ⌜ Answered (r .len) (r .exchange .sent) (r .exchange .states) ⌝ }
 {
     let mut f = [0u8; BYTES_MOST];
-    let mut frame = [0u8; ROOM_MOST];
-    let room = line::read_number(s, at, ROOM_MOST as u32);
-    let heard = line::read_bytes(s, room.next, &mut f);
-    if !(room.right & (heard.next == s.len())) {
+    let a = arguments::read(STEP, s, at, &mut f);
+    if !a.right {
         return Answer {
             len: UNREAD,
             exchange: e,
@@ -209,7 +258,6 @@ pub fn step(e: Exchange, s: &[u8], at: usize, asked: &[u8], out: &mut [u8]) -> A
         let len = text::put_words(out, 0, b"error no request");
         return Answer { len, exchange: e };
     }
-    let n = heard.count;
-    let most = room.value as usize;
-    take_step(e, asked, &f[..n], &mut frame[..most], out)
+    let n = a.count;
+    take_step(e, sent, states, &f[..n], a.number as usize, out)
 }

@@ -1,11 +1,14 @@
 // Standard input as lines.
 use libc::STDIN_FILENO;
 use lines::LINE_FEED;
+use lines::LINE_MOST;
 use lines::line;
 ghost use mathlib.Core.Path.{_≡_};
 ghost use Prim.Native.Nat.{_≤_};
-ghost use lib.ListN.{length};
-ghost use Rattle.lines.specs.Lent.{lineMost};
+ghost use Rattle.console.specs.Lent.{readMost};
+
+// How many bytes are read at once.
+pub const READ_MOST: usize = 4_096;
 
 // Where reading stands: the bytes of the buffer from at to end are still to be taken; n bytes of the line have come, and whether
 // it is whole; whether the input is over.
@@ -31,8 +34,14 @@ pub fn none() -> Input
 }
 
 // Takes what is left in the buffer to the line, up to a line feed.
-fn take(buffer: &[u8], text: &mut [u8], at: usize, end: usize, n: usize) -> Input
-    requires { ⌜ (end ≤ length (now buffer)) × (length (now text) ≡ lineMost) ⌝ }
+fn take(
+    buffer: &[u8; READ_MOST],
+    text: &mut [u8; LINE_MOST],
+    at: usize,
+    end: usize,
+    n: usize,
+) -> Input
+    requires { ⌜ end ≤ readMost ⌝ }
     ensures { λ r. ⌜ r .end ≡ end ⌝ }
 {
     let mut at = at;
@@ -69,9 +78,9 @@ fn so_far(n: usize, whole: bool) -> usize {
 }
 
 // Takes what is left in the buffer, or fills it again. At the end of the input a last line without a line feed counts too.
-pub fn next(buffer: &mut [u8], text: &mut [u8], input: Input) -> Input
-    requires { ⌜ (input .end ≤ length (now buffer)) × (length (now text) ≡ lineMost) ⌝ }
-    ensures { λ r. ⌜ r .end ≤ length (now (buffer .exit)) ⌝ }
+pub fn next(buffer: &mut [u8; READ_MOST], text: &mut [u8; LINE_MOST], input: Input) -> Input
+    requires { ⌜ input .end ≤ readMost ⌝ }
+    ensures { λ r. ⌜ r .end ≤ readMost ⌝ }
 {
     let n = so_far(input.n, input.whole);
     if input.at < input.end {

@@ -1,4 +1,5 @@
 // The console: reads calls from standard input, a line each, and writes each answer line at once. docs/CONSOLE.md.
+mod arguments;
 mod calls;
 mod exchange;
 mod input;
@@ -8,11 +9,12 @@ mod start;
 use card::layout::MEMORY;
 use card::layout::PENDING;
 use card::layout::WORDS;
+use input::READ_MOST;
 use lines::ANSWER_MOST;
+use lines::BYTES_MOST;
 use lines::LINE_MOST;
 use reply::State;
 ghost use Prim.Native.Nat.{_<_};
-ghost use Rattle.console.specs.Lent.{Lent};
 
 // How many turns are left after one: none where the console has ended.
 fn left(turns: u64, going: bool) -> u64
@@ -27,17 +29,17 @@ fn left(turns: u64, going: bool) -> u64
 
 // Goes on while there is input and answers can be written. Nothing says that the input ends, so the loop counts its turns down
 // from a number that no run uses up.
-fn run(
-    words: &mut [u32],
-    memory: &mut [u8],
-    pending: &mut [u8],
-    asked: &mut [u8],
-    buffer: &mut [u8],
-    text: &mut [u8],
-    out: &mut [u8],
-)
-    requires { ⌜ Lent (now words) (now memory) (now pending) (now asked) (now text) (now out) ⌝ }
-{
+fn main() {
+    let mut words = [0u32; WORDS];
+    let mut memory = [0u8; MEMORY];
+    let mut pending = [0u8; PENDING];
+    let mut sent = [0u8; BYTES_MOST];
+    let mut states = [0u8; BYTES_MOST];
+    let mut buffer = [0u8; READ_MOST];
+    let mut text = [0u8; LINE_MOST];
+    let mut out = [0u8; ANSWER_MOST];
+    start::start_words(&mut words);
+    start::start_memory(&mut memory);
     let mut state = State {
         going: true,
         input: input::none(),
@@ -45,28 +47,17 @@ fn run(
     };
     let mut turns = u64::MAX;
     while turns > 0 {
-        state = reply::go_on(words, memory, pending, asked, buffer, text, out, state);
+        state = reply::go_on(
+            &mut words,
+            &mut memory,
+            &mut pending,
+            &mut sent,
+            &mut states,
+            &mut buffer,
+            &mut text,
+            &mut out,
+            state,
+        );
         turns = left(turns, state.going);
     }
-}
-
-fn main() {
-    let mut words = [0u32; WORDS];
-    let mut memory = [0u8; MEMORY];
-    let mut pending = [0u8; PENDING];
-    let mut asked = [0u8; LINE_MOST];
-    let mut buffer = io::buffer();
-    let mut text = [0u8; LINE_MOST];
-    let mut out = [0u8; ANSWER_MOST];
-    start::start_words(&mut words);
-    start::start_memory(&mut memory);
-    run(
-        &mut words,
-        &mut memory,
-        &mut pending,
-        &mut asked,
-        &mut buffer,
-        &mut text,
-        &mut out,
-    );
 }

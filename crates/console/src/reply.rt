@@ -6,18 +6,24 @@ use crate::exchange::Answer;
 use crate::exchange::Exchange;
 use crate::input;
 use crate::input::Input;
+use crate::input::READ_MOST;
+use card::layout::MEMORY;
+use card::layout::PENDING;
+use card::layout::WORDS;
 use libc::STDOUT_FILENO;
+use lines::ANSWER_MOST;
+use lines::BYTES_MOST;
 use lines::LINE_FEED;
+use lines::LINE_MOST;
 use lines::UNREAD;
 use lines::line;
 use lines::text;
 ghost use mathlib.Core.Path.{_≡_};
 ghost use Prim.Native.Nat.{_+_, _≤_, _<_};
 ghost use lib.ListN.{length};
-ghost use Rattle.lines.specs.Lent.{lineMost, answerMost, listMost, Asked};
-ghost use Rattle.tables.specs.Entries.{Tables};
+ghost use Rattle.lines.specs.Lent.{answerMost, listMost};
 ghost use Rattle.console.specs.Held.{Held, Answered};
-ghost use Rattle.console.specs.Lent.{Lent, aroundMost};
+ghost use Rattle.console.specs.Lent.{Line, readMost, aroundMost};
 
 // A line that starts with this is a note.
 const NOTE: u8 = b'#';
@@ -83,8 +89,8 @@ fn read_line(text: &[u8], n: usize, whole: bool) -> Question
 }
 
 // The entry of a list at from.
-fn put_usage(list: &[u8], from: usize, out: &mut [u8], at: usize) -> usize
-    requires { ⌜ (from ≤ length (now list)) × ((length (now list) ≤ listMost) × ((at ≤ listMost + aroundMost) × (answerMost ≤ length (now out)))) ⌝ }
+fn put_usage(list: &[u8], from: usize, out: &mut [u8; ANSWER_MOST], at: usize) -> usize
+    requires { ⌜ (from ≤ length (now list)) × (length (now list) ≤ listMost × (at ≤ listMost + aroundMost)) ⌝ }
     ensures { λ r. ⌜ r ≤ at + listMost ⌝ }
 {
     let end = line::entry_end(list, from);
@@ -100,8 +106,8 @@ fn is_alike(list: &[u8], from: usize, next: usize) -> bool
 }
 
 // What the words after a known first word should have been: the list's entry at from, and the next one where it has the same first word.
-fn expected(list: &[u8], from: usize, out: &mut [u8]) -> usize
-    requires { ⌜ (from < length (now list)) × ((length (now list) ≤ listMost) × (answerMost ≤ length (now out))) ⌝ }
+fn expected(list: &[u8], from: usize, out: &mut [u8; ANSWER_MOST]) -> usize
+    requires { ⌜ (from < length (now list)) × (length (now list) ≤ listMost) ⌝ }
     ensures { λ r. ⌜ r < answerMost ⌝ }
 {
     let start = text::put_words(out, 0, b"error expected ");
@@ -115,8 +121,8 @@ fn expected(list: &[u8], from: usize, out: &mut [u8]) -> usize
 }
 
 // How long the answer line is: a call that could be made has written it; else it says what is wrong.
-fn say(number: usize, from: usize, len: usize, out: &mut [u8]) -> usize
-    requires { ⌜ (len < answerMost) × (answerMost ≤ length (now out)) ⌝ }
+fn say(number: usize, from: usize, len: usize, out: &mut [u8; ANSWER_MOST]) -> usize
+    requires { ⌜ (len < answerMost) ⌝ }
     ensures { λ r. ⌜ r < answerMost ⌝ }
 {
     if len != UNREAD {
@@ -132,37 +138,39 @@ fn say(number: usize, from: usize, len: usize, out: &mut [u8]) -> usize
 }
 
 // Writes the answer line with its line feed, and none where nothing is asked: whether it could be written.
-fn tell(number: usize, from: usize, len: usize, out: &mut [u8]) -> bool
-    requires { ⌜ (len < answerMost) × (answerMost ≤ length (now out)) ⌝ }
+fn tell(number: usize, from: usize, len: usize, out: &mut [u8; ANSWER_MOST]) -> bool
+    requires { ⌜ (len < answerMost) ⌝ }
 {
     if number == calls::NOTHING {
         return true;
     }
     let n = say(number, from, len, out);
     out[n] = LINE_FEED;
-    io::write_all(STDOUT_FILENO, &out[..n + 1])
+    let line: &[u8] = out;
+    io::write_all(STDOUT_FILENO, &line[..n + 1])
 }
 
 // The call of a number, its words from at on.
 fn run(
     number: usize,
-    words: &mut [u32],
-    memory: &mut [u8],
-    pending: &mut [u8],
-    asked: &mut [u8],
+    words: &mut [u32; WORDS],
+    memory: &mut [u8; MEMORY],
+    pending: &mut [u8; PENDING],
+    sent: &mut [u8; BYTES_MOST],
+    states: &mut [u8; BYTES_MOST],
     e: Exchange,
     s: &[u8],
     at: usize,
-    out: &mut [u8],
+    out: &mut [u8; ANSWER_MOST],
 ) -> Answer
-    requires { ⌜ (Tables (now words) (now memory) (now pending) × Asked (now s) at (now out)) × ((length (now asked) ≡ lineMost) × Held (e .sent) (e .states)) ⌝ }
-    ensures { λ r. ⌜ Answered (r .len) (r .exchange .sent) (r .exchange .states) (now (out .exit)) ⌝ }
+    requires { ⌜ Line (now s) at × Held (e .sent) (e .states) ⌝ }
+    ensures { λ r. ⌜ Answered (r .len) (r .exchange .sent) (r .exchange .states) ⌝ }
 {
     if number == calls::REQUEST {
-        return exchange::request(e, s, at, asked, out);
+        return exchange::request(e, s, at, sent, states, out);
     }
     if number == calls::STEP {
-        return exchange::step(e, s, at, asked, out);
+        return exchange::step(e, s, at, sent, states, out);
     }
     let len = calls::call(number, words, memory, pending, s, at, out);
     Answer { len, exchange: e }
@@ -170,31 +178,34 @@ fn run(
 
 // Reads on, and answers the line if it is whole.
 pub fn go_on(
-    words: &mut [u32],
-    memory: &mut [u8],
-    pending: &mut [u8],
-    asked: &mut [u8],
-    buffer: &mut [u8],
-    text: &mut [u8],
-    out: &mut [u8],
+    words: &mut [u32; WORDS],
+    memory: &mut [u8; MEMORY],
+    pending: &mut [u8; PENDING],
+    sent: &mut [u8; BYTES_MOST],
+    states: &mut [u8; BYTES_MOST],
+    buffer: &mut [u8; READ_MOST],
+    text: &mut [u8; LINE_MOST],
+    out: &mut [u8; ANSWER_MOST],
     state: State,
 ) -> State
-    requires { ⌜ Lent (now words) (now memory) (now pending) (now asked) (now text) (now out) × ((state .input .end ≤ length (now buffer)) × Held (state .exchange .sent) (state .exchange .states)) ⌝ }
-    ensures { λ r. ⌜ (r .input .end ≤ length (now (buffer .exit))) × Held (r .exchange .sent) (r .exchange .states) ⌝ }
+    requires { ⌜ (state .input .end ≤ readMost) × Held (state .exchange .sent) (state .exchange .states) ⌝ }
+    ensures { λ r. ⌜ (r .input .end ≤ readMost) × Held (r .exchange .sent) (r .exchange .states) ⌝ }
 {
     let e = state.exchange;
     let taken = state.input;
     let input = input::next(buffer, text, taken);
-    let question = read_line(text, input.n, input.whole);
+    let line: &[u8] = text;
+    let question = read_line(line, input.n, input.whole);
     let end = question.end;
     let did = run(
         question.number,
         words,
         memory,
         pending,
-        asked,
+        sent,
+        states,
         e,
-        &text[..end],
+        &line[..end],
         question.next,
         out,
     );

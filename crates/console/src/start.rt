@@ -6,7 +6,9 @@ use card::layout::IA;
 use card::layout::KEPT;
 use card::layout::LECOM_ADDRESS;
 use card::layout::LOVE_ADDRESS;
+use card::layout::MEMORY;
 use card::layout::PARAMETERS;
+use card::layout::WORDS;
 use card::probe::FAULT_CODE;
 ghost use mathlib.Core.Path.{_≡_};
 ghost use lib.ListN.{replicate};
@@ -21,7 +23,7 @@ const START_LECOM: u32 = 11;
 const START_LOVE: u32 = 0x32;
 
 // The words, from zeros.
-pub fn start_words(words: &mut [u32])
+pub fn start_words(words: &mut [u32; WORDS])
     requires { ⌜ now words ≡ replicate wordCount 0 ⌝ }
     ensures { λ _. ⌜ now (words .exit) ≡ startWords ⌝ }
 {
@@ -43,7 +45,7 @@ pub fn start_words(words: &mut [u32])
 }
 
 // Memory, from zeros: no probe read yet.
-pub fn start_memory(memory: &mut [u8])
+pub fn start_memory(memory: &mut [u8; MEMORY])
     requires { ⌜ now memory ≡ replicate memorySize 0 ⌝ }
     ensures { λ _. ⌜ now (memory .exit) ≡ startMemory ⌝ }
 {

@@ -34,26 +34,17 @@ slice-aggregate-put-words-3 c = search needs
 put-words-requires-3 : tie.Need-put-words-requires-3
 put-words-requires-3 c κs = search needs
 
-same-length : tie.Need-same-length
-same-length c = search needs
-
 returns : tie.Need-returns
 unfolding verdictOf
-returns c = put-as (ap verdictOf (sym (c .before .before .before .before .before .enum-told .given .1))) (put-within (omega arith) (c .before .before .put-words .ensures))
-
-same-length-2 : tie.Need-same-length-2
-same-length-2 c = search needs
+returns c = put-as (ap verdictOf (sym (c .before .before .before .enum-told .given .1))) (put-within (omega arith) (c .put-words .ensures))
 
 returns-2 : tie.Need-returns-2
 unfolding verdictOf
-returns-2 c = put-as (ap verdictOf (sym (c .before .before .before .before .before .enum-told2 .given .1))) (put-within (omega arith) (c .before .before .put-words2 .ensures))
-
-same-length-3 : tie.Need-same-length-3
-same-length-3 c = search needs
+returns-2 c = put-as (ap verdictOf (sym (c .before .before .before .enum-told2 .given .1))) (put-within (omega arith) (c .put-words2 .ensures))
 
 returns-3 : tie.Need-returns-3
 unfolding verdictOf
-returns-3 c = put-as (ap verdictOf (sym (c .before .before .before .before .before .enum-told3 .given .1))) (put-within (omega arith) (c .before .before .put-words3 .ensures))
+returns-3 c = put-as (ap verdictOf (sym (c .before .before .before .enum-told3 .given .1))) (put-within (omega arith) (c .put-words3 .ensures))
 
 pub put-verdict-spec : {M : Type 1} → statement M
 put-verdict-spec =
@@ -68,9 +59,6 @@ put-verdict-spec =
     enum-told-3
     slice-aggregate-put-words-3
     put-words-requires-3
-    same-length
     returns
-    same-length-2
     returns-2
-    same-length-3
     returns-3)

@@ -19,15 +19,12 @@ slice-aggregate-put-bytes c = simp length-take (omega arith)
 put-bytes-requires : tie.Need-put-bytes-requires
 put-bytes-requires c κs = simp length-take (omega arith)
 
-same-length : tie.Need-same-length
-same-length c = search needs
-
 returns : tie.Need-returns
 unfolding stepped
 returns c =
-    let bytes = c .before .before .put-bytes .ensures in
-    let verdict = c .before .before .before .before .before .before .before .put-verdict .ensures in
-    let number = c .before .before .before .before .before .before .before .before .before .before .before .put-number .ensures in
+    let bytes = c .put-bytes .ensures in
+    let verdict = c .before .before .before .put-verdict .ensures in
+    let number = c .before .before .before .before .before .put-number .ensures in
     put-within (simp length-take (omega arith)) (put-then (search needs) (put-then (search needs) number verdict) bytes)
 
 pub tell-step-spec : {M : Type 1} → statement M
@@ -38,5 +35,4 @@ tell-step-spec =
     put-verdict-requires
     slice-aggregate-put-bytes
     put-bytes-requires
-    same-length
     returns)

@@ -1,14 +1,12 @@
 -- `console::input::take` meets its contract. Assumes nothing.
-use mathlib.Core.Path.{_≡_}
-use lib.ListN.{length}
 use Prim.Native.Nat.{_-_}
+use mathlib.Core.Path.{_≡_}
 use borrow.Author.Needs.{needs}
 use Rattle.console.proofs.input.take.Statement.{statement}
 use Rattle.console.proofs.input.take.Tie as tie
 
 abbrev Inv-loop : tie.InvT-loop
-Inv-loop buffer text₀ at end n at₀ n₀ text at' n' =
-    length text ≡ length text₀
+Inv-loop buffer text₀ at end n at₀ n₀ text at' n' = Unit
 
 abbrev μ-loop : tie.MeasureT-loop
 μ-loop buffer text₀ at end n at₀ n₀ text at' n' = end - at'
@@ -16,14 +14,11 @@ abbrev μ-loop : tie.MeasureT-loop
 loop-holds : tie.Need-loop-holds Inv-loop μ-loop
 loop-holds c = search needs
 
-shared-slice-read-b : tie.Need-shared-slice-read-b Inv-loop μ-loop
-shared-slice-read-b c = search needs
+element-copy-out-b : tie.Need-element-copy-out-b Inv-loop μ-loop
+element-copy-out-b c = search needs
 
 add-at : tie.Need-add-at Inv-loop μ-loop
 add-at c = search needs
-
-same-length : tie.Need-same-length Inv-loop μ-loop
-same-length c = search needs
 
 returns : tie.Need-returns Inv-loop μ-loop
 returns c = search needs
@@ -37,9 +32,6 @@ loop-less c = search needs
 loop-again : tie.Need-loop-again Inv-loop μ-loop
 loop-again c = search needs
 
-same-length-2 : tie.Need-same-length-2 Inv-loop μ-loop
-same-length-2 c = search needs
-
 returns-2 : tie.Need-returns-2 Inv-loop μ-loop
 returns-2 c = search needs
 
@@ -50,12 +42,10 @@ take-spec =
     Inv-loop
     μ-loop
     loop-holds
-    shared-slice-read-b
+    element-copy-out-b
     add-at
-    same-length
     returns
     join-requires
     loop-less
     loop-again
-    same-length-2
     returns-2)

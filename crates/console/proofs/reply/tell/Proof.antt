@@ -1,8 +1,6 @@
 -- `console::reply::tell` meets its contract. Assumes nothing.
-use mathlib.Core.Path.{sym}
+use lib.ListN.{length-take}
 use native.Mathlib.Omega.{arith}
-use lib.ListN.{length-set}
-use lib.Seq.{length-take-le}
 use borrow.Author.Needs.{needs}
 use Rattle.console.proofs.reply.tell.Statement.{statement}
 use Rattle.console.proofs.reply.tell.Tie as tie
@@ -13,23 +11,17 @@ returns c = search needs
 say-requires : tie.Need-say-requires
 say-requires c κs = search needs
 
-slice-write-out : tie.Need-slice-write-out
-slice-write-out c = search needs
+element-write-out : tie.Need-element-write-out
+element-write-out c = search needs
 
 add-write-all : tie.Need-add-write-all
 add-write-all c = search needs
 
-slice-reshare-prefix-write-all : tie.Need-slice-reshare-prefix-write-all
-slice-reshare-prefix-write-all c = simp length-set (omega arith)
-
 slice-aggregate-write-all : tie.Need-slice-aggregate-write-all
-slice-aggregate-write-all c = sym (length-take-le _ _ (slice-reshare-prefix-write-all (c .before)))
+slice-aggregate-write-all c = simp length-take (omega arith)
 
 write-all-requires : tie.Need-write-all-requires
 write-all-requires c κs = search needs
-
-same-length : tie.Need-same-length
-same-length c = search needs
 
 returns-2 : tie.Need-returns-2
 returns-2 c = search needs
@@ -40,10 +32,8 @@ tell-spec =
     (tie.spec
     returns
     say-requires
-    slice-write-out
+    element-write-out
     add-write-all
-    slice-reshare-prefix-write-all
     slice-aggregate-write-all
     write-all-requires
-    same-length
     returns-2)

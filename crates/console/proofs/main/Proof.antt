@@ -1,0 +1,62 @@
+-- `console::main` meets its contract. Assumes nothing.
+use Prim.Native.Nat.{_≤_}
+use mathlib.Core.Path.{refl}
+use Rattle.console.specs.Held.{Held}
+use Rattle.console.specs.Lent.{readMost}
+use borrow.Author.Needs.{needs}
+use Rattle.console.proofs.main.Statement.{statement}
+use Rattle.console.proofs.main.Tie as tie
+
+abbrev Inv-loop : tie.InvT-loop
+Inv-loop words₀ memory₀ pending₀ sent₀ states₀ buffer₀ text₀ out₀ state₀ turns₀ words memory pending sent states buffer text out state turns =
+    (state .input .end ≤ readMost) × Held (state .exchange .sent) (state .exchange .states)
+
+abbrev μ-loop : tie.MeasureT-loop
+μ-loop words₀ memory₀ pending₀ sent₀ states₀ buffer₀ text₀ out₀ state₀ turns₀ words memory pending sent states buffer text out state turns = turns
+
+start-words-requires : tie.Need-start-words-requires Inv-loop μ-loop
+start-words-requires c κs = refl
+
+start-memory-requires : tie.Need-start-memory-requires Inv-loop μ-loop
+start-memory-requires c κs = refl
+
+none-requires : tie.Need-none-requires Inv-loop μ-loop
+none-requires c κs = tt
+
+none-requires-2 : tie.Need-none-requires-2 Inv-loop μ-loop
+none-requires-2 c κs = tt
+
+loop-holds : tie.Need-loop-holds Inv-loop μ-loop
+loop-holds c = search needs
+
+go-on-requires : tie.Need-go-on-requires Inv-loop μ-loop
+go-on-requires c κs = search needs
+
+left-requires : tie.Need-left-requires Inv-loop μ-loop
+left-requires c κs = search needs
+
+loop-less : tie.Need-loop-less Inv-loop μ-loop
+loop-less c = search needs
+
+loop-again : tie.Need-loop-again Inv-loop μ-loop
+loop-again c = search needs
+
+returns : tie.Need-returns Inv-loop μ-loop
+returns c = search needs
+
+pub main-spec : {M : Type 1} → statement M
+main-spec =
+    tie.close
+    (tie.spec
+    Inv-loop
+    μ-loop
+    start-words-requires
+    start-memory-requires
+    none-requires
+    none-requires-2
+    loop-holds
+    go-on-requires
+    left-requires
+    loop-less
+    loop-again
+    returns)
