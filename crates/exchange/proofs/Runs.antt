@@ -1,26 +1,29 @@
 -- Runs of the written meanings, computed: what the master says and what the card then holds. Each is allowed by the premise, word for word. Assumes nothing.
-use mathlib.Core.Path.{_≡_, refl}
+use mathlib.Core.Path.{_≡_, refl, ap, _∙_}
 use mathlib.Core.Bool.{true}
 use mathlib.Core.List.{List, [], _∷_, _++_}
-use Prim.Native.Nat.{ℕ}
+use Prim.Native.Nat.{ℕ, zero, suc, _-_}
+use native.Mathlib.Omega.{arith}
 use lib.ListN.{set}
-use Rattle.bits.specs.Bits.{bit, field, withBit, putBit, putField}
-use Rattle.bits.specs.Fields.{widthOf, fields, putFields}
-use Rattle.card.specs.Layout.{Card}
-use Rattle.image.specs.Form.{run as entries, savedForm, widths, used}
-use Rattle.image.specs.Saved.{fieldOf, wordOf, values, replaced, imageOf, entriesOf, paddingOf, restored}
-use Rattle.image.specs.Entries.{readImage}
+use Rattle.wire.specs.Word.{wordValues}
+use Rattle.card.specs.Layout.{Card, cardOf, iaAt}
+use Rattle.card.specs.Tables.{inSpan, allIn, fit}
+use Rattle.card.proofs.Facts.{and-true, span-most}
+use Rattle.image.specs.Form.{run as entries, savedForm}
+use Rattle.image.specs.Saved.{fieldOf, wordOf, values, replaced, imageOf, restored}
+use Rattle.image.proofs.Words.{Words}
+use Rattle.image.proofs.RoundTrip.{read-written, entriesOf-imageOf}
 use Rattle.master.specs.Request.{Request, askable}
 use Rattle.master.specs.Request.Ask.{bytes, bits}
 use Rattle.master.specs.Frames.{changeFrame, acknowledgeFrame}
 use Rattle.master.specs.Step.{saysOf}
 use Rattle.master.specs.declared.Verdict.{Verdict}
 use Rattle.master.specs.declared.Verdict.the-variants.{Open, Done, Unknown}
-use Rattle.exchange.specs.Calls.{Call}
+use Rattle.exchange.specs.Calls.{Call, replyOf}
 use Rattle.exchange.specs.Calls.Choice.{answer}
 use Rattle.exchange.specs.Calls.Call.{Step, Arrival, Restart, Datalink, Other}
 use Rattle.exchange.specs.Calls.Entry.{SetCode, ReadImage}
-use Rattle.exchange.specs.Line.{begin, asWritten, run}
+use Rattle.exchange.specs.Line.{World, begin, asWritten, called, run}
 use Rattle.exchange.specs.Demand.{byteAt}
 use Rattle.exchange.proofs.Computed.{computed, allows, fresh, stale, cardWith, two, hears, alone, arrives}
 
@@ -116,11 +119,78 @@ others-between : Runs two fresh (alone ∷ arrives ∷ Other (SetCode 0 90) ∷ 
 unfolding computed allows
 others-between = record { asked = refl; allowed = refl; said = refl; held = refl }
 
--- an image read between the rounds gives the card I.A. 4, so that the acknowledge is foreign, and another gives it back
+-- An image read between the rounds gives the card I.A. 4, so that the acknowledge is foreign, and another gives it back. What they give is
+-- known by the image's laws; no image is computed.
 
-abbrev imageWith : ℕ → List ℕ
-imageWith ia = imageOf (set (fresh .words) 0 ia)
+abbrev cardOfIa : ℕ → Card
+cardOfIa ia = cardOf (set (fresh .words) iaAt ia) (fresh .memory) (fresh .pending)
 
-image-between : Runs two fresh (alone ∷ arrives ∷ hears ∷ Other (ReadImage (imageWith 4)) ∷ arrives ∷ Other (ReadImage (imageWith 3)) ∷ arrives ∷ alone ∷ arrives ∷ hears ∷ []) Done 0x1010 8
-unfolding computed allows bit field withBit putBit putField widthOf fields putFields entries savedForm widths used fieldOf wordOf values replaced imageOf entriesOf paddingOf restored readImage
-image-between = record { asked = refl; allowed = refl; said = refl; held = refl }
+abbrev imageRead : ℕ → Call
+imageRead ia = Other (ReadImage (imageOf (cardOfIa ia .words)))
+
+-- the world after such a call
+abbrev regained : ℕ → World → World
+regained ia w =
+    record { card = cardOf (replaced savedForm (w .card .words) (values savedForm (cardOfIa ia .words))) (w .card .memory) (w .card .pending); phase = w .phase; line = w .line }
+
+abbrev wordMost : ℕ
+wordMost = wordValues - 1
+
+-- words that pass a test which computes
+words-below : (ws : List ℕ) → allIn 0 wordMost ws ≡ true → Words ws
+unfolding allIn
+words-below [] e k = omega arith
+words-below (x ∷ ws) e zero = omega (arith, span-most wordMost x refl (and-true (inSpan 0 wordMost x) (allIn 0 wordMost ws) e .0))
+words-below (x ∷ ws) e (suc k) = words-below ws (and-true (inSpan 0 wordMost x) (allIn 0 wordMost ws) e .1) k
+
+image-call : (ia : ℕ) (w : World) → fit (cardOfIa ia) ≡ true → allIn 0 wordMost (cardOfIa ia .words) ≡ true → fit (w .card) ≡ true → called asWritten two w (imageRead ia) ≡ regained ia w
+unfolding called replyOf restored
+image-call ia w f s h =
+    let words = words-below (cardOfIa ia .words) s in
+    ap (λ r. record { card = r .card; phase = w .phase; line = w .line }) (read-written (cardOfIa ia) (w .card) f words h .read)
+    ∙ ap (λ vs. record { card = cardOf (replaced savedForm (w .card .words) vs) (w .card .memory) (w .card .pending); phase = w .phase; line = w .line }) (entriesOf-imageOf (cardOfIa ia) f words)
+
+-- the worlds before, between and after the two
+abbrev next : World → Call → World
+next w c = called asWritten two w c
+
+abbrev echoHeard : World
+echoHeard = next (next (next (begin fresh) alone) arrives) hears
+
+abbrev toTheEnd : World → World
+toTheEnd w = next (next (next (next w arrives) alone) arrives) hears
+
+abbrev foreign : World
+foreign = next (regained 4 echoHeard) arrives
+
+abbrev imagesRead : List Call
+imagesRead = alone ∷ arrives ∷ hears ∷ imageRead 4 ∷ arrives ∷ imageRead 3 ∷ arrives ∷ alone ∷ arrives ∷ hears ∷ []
+
+images-run : run asWritten two (begin fresh) imagesRead ≡ toTheEnd (next (next (next echoHeard (imageRead 4)) arrives) (imageRead 3))
+unfolding run
+images-run = refl
+
+first-image : next echoHeard (imageRead 4) ≡ regained 4 echoHeard
+unfolding computed
+first-image = image-call 4 echoHeard refl refl refl
+
+second-image : next foreign (imageRead 3) ≡ regained 3 foreign
+unfolding computed fieldOf wordOf values replaced entries savedForm
+second-image = image-call 3 foreign refl refl refl
+
+images-read : run asWritten two (begin fresh) imagesRead ≡ toTheEnd (regained 3 foreign)
+images-read = images-run ∙ (ap (λ w. toTheEnd (next (next w arrives) (imageRead 3))) first-image ∙ ap toTheEnd second-image)
+
+images-allowed : allows asWritten two (begin fresh) imagesRead ≡ true
+unfolding computed allows
+images-allowed = refl
+
+image-between : Runs two fresh imagesRead Done 0x1010 8
+unfolding computed fieldOf wordOf values replaced entries savedForm
+image-between =
+    record {
+      asked = refl;
+      allowed = images-allowed;
+      said = ap (λ w. saysOf (w .phase)) images-read;
+      held = ap (λ w. byteAt (w .card) 0x1010) images-read;
+    }

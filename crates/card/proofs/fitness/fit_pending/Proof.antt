@@ -32,7 +32,7 @@ is-echoable-requires c κs = search needs
 
 returns-2 : tie.Need-returns-2
 unfolding fitPending
-returns-2 c = simp (ne-eqb _ _ (c .before .before .before .before .before .before .if1 .left)) (cc)
+returns-2 c = simp (ne-eqb _ _ (c .before .before .before .before .before .before .if1 .left)) (rw (← c .before .bytes-named .ensures, ← c .before .before .address .ensures) (c .is-echoable .ensures))
 
 pub fit-pending-spec : {M : Type 1} → statement M
 fit-pending-spec =
