@@ -115,6 +115,20 @@ fn enter(
     }
 }
 
+// governor CHANNEL
+fn tell_governor(
+    words: &[u32; WORDS],
+    memory: &[u8; MEMORY],
+    pending: &[u8; PENDING],
+    channel: u32,
+    out: &mut [u8; ANSWER_MOST],
+) -> usize
+    ensures { λ r. ⌜ r < answerMost ⌝ }
+{
+    let told = governor::governor_reading(words, memory, pending, channel);
+    text::tell_reading(out, told)
+}
+
 // A call of an entry of the card.
 fn on_card(
     call: usize,
@@ -129,17 +143,14 @@ fn on_card(
     ensures { λ r. ⌜ r < answerMost ⌝ }
 {
     let mut f = [0u8; BYTES_MOST];
-    let mut answer = [0u8; ROOM_MOST];
     let a = arguments::read(call, s, at, &mut f);
     if !a.right {
         return UNREAD;
     }
     if call == GOVERNOR {
-        return text::tell_reading(
-            out,
-            governor::governor_reading(words, memory, pending, a.number),
-        );
+        return tell_governor(words, memory, pending, a.number, out);
     }
+    let mut answer = [0u8; ROOM_MOST];
     let n = a.count;
     let room = a.number as usize;
     let given = enter(

@@ -70,17 +70,12 @@ fn read_sent(
     ensures { λ r. ⌜ Held (r .sent) (r .states) ⌝ }
 {
     let sent = line::read_bytes(s, at, to);
-    if !is_bits {
-        return Sent {
-            right: sent.next == s.len(),
-            sent: sent.count,
-            states: 0,
-        };
-    }
     let slash = line::read_name(s, sent.next, b"/");
     let states = line::read_bytes(s, slash.next, back);
+    let one = sent.next == s.len();
+    let two = (slash.number == 0) & (states.next == s.len());
     Sent {
-        right: (slash.number == 0) & (states.next == s.len()),
+        right: (one & !is_bits) | (two & is_bits),
         sent: sent.count,
         states: states.count,
     }

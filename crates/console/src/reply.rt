@@ -90,56 +90,54 @@ fn read_line(text: &[u8], n: usize, whole: bool) -> Question
 
 // The entry of a list at from.
 fn put_usage(list: &[u8], from: usize, out: &mut [u8; ANSWER_MOST], at: usize) -> usize
-    requires { ⌜ (from ≤ length (now list)) × (length (now list) ≤ listMost × (at ≤ listMost + aroundMost)) ⌝ }
+    requires { ⌜ (from ≤ length (now list)) × ((length (now list) ≤ listMost) × (at ≤ listMost + aroundMost)) ⌝ }
     ensures { λ r. ⌜ r ≤ at + listMost ⌝ }
 {
     let end = line::entry_end(list, from);
     text::put_words(out, at, &list[from..end])
 }
 
-// Whether the entry at next has the first word of the entry at from.
-fn is_alike(list: &[u8], from: usize, next: usize) -> bool
-    requires { ⌜ (from ≤ length (now list)) × (next ≤ length (now list)) ⌝ }
-{
-    let end = from + line::name_len(list, from);
-    line::is_named(list, next, &list[from..end])
-}
-
-// What the words after a known first word should have been: the list's entry at from, and the next one where it has the same first word.
-fn expected(list: &[u8], from: usize, out: &mut [u8; ANSWER_MOST]) -> usize
+// What the words after a known first word should have been: the list's entry at from, and for a request the next one too.
+fn expected(number: usize, list: &[u8], from: usize, out: &mut [u8; ANSWER_MOST]) -> usize
     requires { ⌜ (from < length (now list)) × (length (now list) ≤ listMost) ⌝ }
     ensures { λ r. ⌜ r < answerMost ⌝ }
 {
     let start = text::put_words(out, 0, b"error expected ");
     let end = put_usage(list, from, out, start);
-    let next = line::next_entry(list, from);
-    if !is_alike(list, from, next) {
+    if number != calls::REQUEST {
         return end;
     }
     let or = text::put_words(out, end, b" or ");
-    put_usage(list, next, out, or)
+    put_usage(list, line::next_entry(list, from), out, or)
 }
 
-// How long the answer line is: a call that could be made has written it; else it says what is wrong.
-fn say(number: usize, from: usize, len: usize, out: &mut [u8; ANSWER_MOST]) -> usize
-    requires { ⌜ (len < answerMost) ⌝ }
+// The line of what is wrong with a line that could not be read.
+fn refuse(number: usize, from: usize, out: &mut [u8; ANSWER_MOST]) -> usize
     ensures { λ r. ⌜ r < answerMost ⌝ }
 {
-    if len != UNREAD {
-        return len;
-    }
     if number == calls::TOO_LONG {
         return text::put_words(out, 0, b"error line longer than 32768 bytes");
     }
     if CALLS.len() <= from {
         return text::put_words(out, 0, b"error unknown call");
     }
-    expected(&CALLS, from, out)
+    expected(number, &CALLS, from, out)
+}
+
+// How long the answer line is: a call that could be made has written it; else it says what is wrong.
+fn say(number: usize, from: usize, len: usize, out: &mut [u8; ANSWER_MOST]) -> usize
+    requires { ⌜ len < answerMost ⌝ }
+    ensures { λ r. ⌜ r < answerMost ⌝ }
+{
+    if len != UNREAD {
+        return len;
+    }
+    refuse(number, from, out)
 }
 
 // Writes the answer line with its line feed, and none where nothing is asked: whether it could be written.
 fn tell(number: usize, from: usize, len: usize, out: &mut [u8; ANSWER_MOST]) -> bool
-    requires { ⌜ (len < answerMost) ⌝ }
+    requires { ⌜ len < answerMost ⌝ }
 {
     if number == calls::NOTHING {
         return true;

@@ -6,9 +6,8 @@ use card::layout::IA;
 use card::layout::KEPT;
 use card::layout::LECOM_ADDRESS;
 use card::layout::LOVE_ADDRESS;
-use card::layout::MEMORY;
 use card::layout::PARAMETERS;
-use card::layout::WORDS;
+use card::layout::PARAMETERS_EACH;
 use card::probe::FAULT_CODE;
 ghost use mathlib.Core.Path.{_≡_};
 ghost use lib.ListN.{replicate};
@@ -22,8 +21,27 @@ const START_LECOM: u32 = 11;
 
 const START_LOVE: u32 = 0x32;
 
+// The demands of the other channels, and their parameter 1110h with its saved copy.
+const SECOND_DEMAND: usize = DEMANDS + 1;
+
+const THIRD_DEMAND: usize = DEMANDS + 2;
+
+const FOURTH_DEMAND: usize = DEMANDS + 3;
+
+const SECOND_CYCLE: usize = PARAMETERS + PARAMETERS_EACH;
+
+const THIRD_CYCLE: usize = SECOND_CYCLE + PARAMETERS_EACH;
+
+const FOURTH_CYCLE: usize = THIRD_CYCLE + PARAMETERS_EACH;
+
+const SECOND_KEPT: usize = KEPT + PARAMETERS_EACH;
+
+const THIRD_KEPT: usize = SECOND_KEPT + PARAMETERS_EACH;
+
+const FOURTH_KEPT: usize = THIRD_KEPT + PARAMETERS_EACH;
+
 // The words, from zeros.
-pub fn start_words(words: &mut [u32; WORDS])
+pub fn start_words(words: &mut [u32])
     requires { ⌜ now words ≡ replicate wordCount 0 ⌝ }
     ensures { λ _. ⌜ now (words .exit) ≡ startWords ⌝ }
 {
@@ -31,21 +49,21 @@ pub fn start_words(words: &mut [u32; WORDS])
     words[LECOM_ADDRESS] = START_LECOM;
     words[LOVE_ADDRESS] = START_LOVE;
     words[DEMANDS] = DEMAND_MOST;
-    words[DEMANDS + 1] = DEMAND_MOST;
-    words[DEMANDS + 2] = DEMAND_MOST;
-    words[DEMANDS + 3] = DEMAND_MOST;
+    words[SECOND_DEMAND] = DEMAND_MOST;
+    words[THIRD_DEMAND] = DEMAND_MOST;
+    words[FOURTH_DEMAND] = DEMAND_MOST;
     words[PARAMETERS] = CYCLE_DEFAULT;
-    words[PARAMETERS + 2] = CYCLE_DEFAULT;
-    words[PARAMETERS + 4] = CYCLE_DEFAULT;
-    words[PARAMETERS + 6] = CYCLE_DEFAULT;
+    words[SECOND_CYCLE] = CYCLE_DEFAULT;
+    words[THIRD_CYCLE] = CYCLE_DEFAULT;
+    words[FOURTH_CYCLE] = CYCLE_DEFAULT;
     words[KEPT] = CYCLE_DEFAULT;
-    words[KEPT + 2] = CYCLE_DEFAULT;
-    words[KEPT + 4] = CYCLE_DEFAULT;
-    words[KEPT + 6] = CYCLE_DEFAULT;
+    words[SECOND_KEPT] = CYCLE_DEFAULT;
+    words[THIRD_KEPT] = CYCLE_DEFAULT;
+    words[FOURTH_KEPT] = CYCLE_DEFAULT;
 }
 
 // Memory, from zeros: no probe read yet.
-pub fn start_memory(memory: &mut [u8; MEMORY])
+pub fn start_memory(memory: &mut [u8])
     requires { ⌜ now memory ≡ replicate memorySize 0 ⌝ }
     ensures { λ _. ⌜ now (memory .exit) ≡ startMemory ⌝ }
 {

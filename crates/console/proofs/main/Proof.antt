@@ -14,8 +14,14 @@ Inv-loop words₀ memory₀ pending₀ sent₀ states₀ buffer₀ text₀ out�
 abbrev μ-loop : tie.MeasureT-loop
 μ-loop words₀ memory₀ pending₀ sent₀ states₀ buffer₀ text₀ out₀ state₀ turns₀ words memory pending sent states buffer text out state turns = turns
 
+slice-aggregate-start-words : tie.Need-slice-aggregate-start-words Inv-loop μ-loop
+slice-aggregate-start-words c = search needs
+
 start-words-requires : tie.Need-start-words-requires Inv-loop μ-loop
 start-words-requires c κs = refl
+
+slice-aggregate-start-memory : tie.Need-slice-aggregate-start-memory Inv-loop μ-loop
+slice-aggregate-start-memory c = search needs
 
 start-memory-requires : tie.Need-start-memory-requires Inv-loop μ-loop
 start-memory-requires c κs = refl
@@ -50,7 +56,9 @@ main-spec =
     (tie.spec
     Inv-loop
     μ-loop
+    slice-aggregate-start-words
     start-words-requires
+    slice-aggregate-start-memory
     start-memory-requires
     none-requires
     none-requires-2

@@ -1,5 +1,4 @@
 -- `console::calls::on_card` meets its contract. Assumes nothing.
-use Rattle.console.proofs.Answers.{governor-real}
 use lib.ListN.{length-take, length-drop, length-append}
 use native.Mathlib.Omega.{arith}
 use borrow.Author.Needs.{needs}
@@ -12,11 +11,8 @@ read-requires c κs = search needs
 returns : tie.Need-returns
 returns c = search needs
 
-governor-reading-requires : tie.Need-governor-reading-requires
-governor-reading-requires c κs = search needs
-
-tell-reading-requires : tie.Need-tell-reading-requires
-tell-reading-requires c κs = (rw (c .governor-reading .ensures) (governor-real _ _), search needs)
+tell-governor-requires : tie.Need-tell-governor-requires
+tell-governor-requires c κs = search needs
 
 returns-2 : tie.Need-returns-2
 returns-2 c = search needs
@@ -40,7 +36,7 @@ enter-requires : tie.Need-enter-requires
 enter-requires c κs = search needs
 
 slice-aggregate-tell : tie.Need-slice-aggregate-tell
-slice-aggregate-tell c = let kept = simp length-take at (c .before .before .before .enter .kept) in simp (length-append, length-drop, length-take) (omega arith)
+slice-aggregate-tell c = let kept = simp length-take at (c .before .before .before .enter .kept) in simp (length-append, length-drop) (omega arith)
 
 tell-requires : tie.Need-tell-requires
 tell-requires c κs = ((simp length-append (omega arith), omega (arith, slice-aggregate-tell c)), search needs)
@@ -54,8 +50,7 @@ on-card-spec =
     (tie.spec
     read-requires
     returns
-    governor-reading-requires
-    tell-reading-requires
+    tell-governor-requires
     returns-2
     cast-room
     array-share-prefix-f

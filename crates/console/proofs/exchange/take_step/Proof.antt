@@ -18,7 +18,7 @@ says-requires : tie.Need-says-requires
 says-requires c κs = search needs
 
 slice-aggregate-tell-step : tie.Need-slice-aggregate-tell-step
-slice-aggregate-tell-step c = let kept = simp length-take at (c .before .before .before .before .go .kept) in simp (length-append, length-drop, length-take) (omega arith)
+slice-aggregate-tell-step c = let kept = simp length-take at (c .before .before .before .before .go .kept) in simp (length-append, length-drop) (omega arith)
 
 tell-step-requires : tie.Need-tell-step-requires
 tell-step-requires c κs = (simp length-append (omega arith), omega (arith, slice-aggregate-tell-step c))

@@ -1,19 +1,24 @@
 -- `console::start::start_memory` meets its contract. Assumes nothing.
+use lib.ListN.{length-set}
+use native.Mathlib.Omega.{arith}
 use borrow.Author.Needs.{needs}
 use Rattle.console.proofs.start.start_memory.Statement.{statement}
 use Rattle.console.proofs.start.start_memory.Tie as tie
 
-element-write-memory : tie.Need-element-write-memory
-element-write-memory c = search needs
+slice-write-memory : tie.Need-slice-write-memory
+slice-write-memory c = rw (c .pre) (omega arith)
 
-element-write-memory-2 : tie.Need-element-write-memory-2
-element-write-memory-2 c = search needs
+slice-write-memory-2 : tie.Need-slice-write-memory-2
+slice-write-memory-2 c = simp length-set (rw (c .pre) (omega arith))
 
-element-write-memory-3 : tie.Need-element-write-memory-3
-element-write-memory-3 c = search needs
+slice-write-memory-3 : tie.Need-slice-write-memory-3
+slice-write-memory-3 c = simp length-set (rw (c .pre) (omega arith))
 
-element-write-memory-4 : tie.Need-element-write-memory-4
-element-write-memory-4 c = search needs
+slice-write-memory-4 : tie.Need-slice-write-memory-4
+slice-write-memory-4 c = simp length-set (rw (c .pre) (omega arith))
+
+same-length : tie.Need-same-length
+same-length c = search needs
 
 returns : tie.Need-returns
 returns c = rw (c .pre)
@@ -22,8 +27,9 @@ pub start-memory-spec : {M : Type 1} → statement M
 start-memory-spec =
     tie.close
     (tie.spec
-    element-write-memory
-    element-write-memory-2
-    element-write-memory-3
-    element-write-memory-4
+    slice-write-memory
+    slice-write-memory-2
+    slice-write-memory-3
+    slice-write-memory-4
+    same-length
     returns)
