@@ -2,7 +2,8 @@
 use mathlib.Core.Path.{_∙_}
 use native.Mathlib.Omega.{arith}
 use borrow.Author.Needs.{needs}
-use Rattle.wire.proofs.Cases.{cases}
+use borrow.Author.Tests.{eq-eqb}
+use Rattle.wire.proofs.Cases.{cases, yes}
 use Rattle.image.specs.Ranges.{inRange}
 use Rattle.image.proofs.Ranges.{at-demand, at-cycle, at-floor, at-register}
 use Rattle.image.proofs.range.in_range.Statement.{statement}
@@ -10,7 +11,7 @@ use Rattle.image.proofs.range.in_range.Tie as tie
 
 returns : tie.Need-returns
 unfolding inRange
-returns c = search cases
+returns c = search (yes, eq-eqb)
 
 lecom-right-requires : tie.Need-lecom-right-requires
 lecom-right-requires c κs = search needs

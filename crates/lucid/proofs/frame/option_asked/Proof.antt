@@ -14,14 +14,14 @@ type-known-requires c κs = search needs
 
 returns : tie.Need-returns
 unfolding optionAsked
-returns c = search (yes, no, told-yes, told-no) depth 12
+returns c = search (no, told-no)
 
 type-writable-requires : tie.Need-type-writable-requires
 type-writable-requires c κs = search needs
 
 returns-2 : tie.Need-returns-2
 unfolding optionAsked
-returns-2 c = search (yes, no, told-yes, told-no) depth 12
+returns-2 c = search (yes, no, told-yes, told-no)
 
 option-right-requires : tie.Need-option-right-requires
 option-right-requires c κs = search needs
