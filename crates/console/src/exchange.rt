@@ -57,7 +57,7 @@ struct Sent {
     states: usize,
 }
 
-// BYTES, or MASKS / STATES, which go to two buffers.
+// BYTES, or MASKS / STATES, which go to two buffers. Where a line ends after its BYTES there are no states to read.
 fn read_sent(
     s: &[u8],
     at: usize,
@@ -71,10 +71,10 @@ fn read_sent(
     let sent = line::read_bytes(s, at, to);
     let slash = line::read_name(s, sent.next, b"/");
     let states = line::read_bytes(s, slash.next, back);
-    let one = sent.next == s.len();
-    let two = (slash.number == 0) & (states.next == s.len());
+    let change = sent.next == s.len();
+    let bits = (slash.number == 0) & (states.next == s.len());
     Sent {
-        right: (one & !is_bits) | (two & is_bits),
+        right: (change & !is_bits) | (bits & is_bits),
         sent: sent.count,
         states: states.count,
     }
@@ -110,7 +110,8 @@ fn read_request(s: &[u8], to: &mut [u8; BYTES_MOST], back: &mut [u8; BYTES_MOST]
     }
 }
 
-// request change IA ADDRESS BYTES or request bits IA ADDRESS MASKS / STATES
+// request change IA ADDRESS BYTES or request bits IA ADDRESS MASKS / STATES. Its bytes are read apart: a line that cannot be read
+// leaves the kept ones as they are.
 pub fn request(
     e: Exchange,
     s: &[u8],
