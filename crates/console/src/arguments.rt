@@ -13,8 +13,7 @@ use lines::line::Bytes;
 use lines::line::Number;
 ghost use Prim.Native.Nat.{_≤_};
 ghost use lib.ListN.{length};
-ghost use Rattle.lines.specs.Lent.{roomMost};
-ghost use Rattle.console.specs.Lent.{Line};
+ghost use Rattle.lines.specs.Lent.{lineMost, roomMost};
 
 // Channels and codes.
 const BYTE_MOST: u32 = 255;
@@ -85,7 +84,7 @@ fn read_number(has: bool, s: &[u8], at: usize, most: u32) -> Number
 
 // The bytes from at on, if the call has them.
 fn read_bytes(has: bool, s: &[u8], at: usize, to: &mut [u8; BYTES_MOST]) -> Bytes
-    requires { ⌜ Line (now s) at ⌝ }
+    requires { ⌜ (at ≤ length (now s)) × (length (now s) ≤ lineMost) ⌝ }
     ensures { λ r. ⌜ r .count ≤ length (now (to .exit)) ⌝ }
 {
     if has {
@@ -94,13 +93,13 @@ fn read_bytes(has: bool, s: &[u8], at: usize, to: &mut [u8; BYTES_MOST]) -> Byte
     Bytes { count: 0, next: at }
 }
 
-// The words of a line from at on, for the call of a number.
-pub fn read(call: usize, s: &[u8], at: usize, to: &mut [u8; BYTES_MOST]) -> Arguments
-    requires { ⌜ Line (now s) at ⌝ }
+// The words of a line after its name, for the call of a number.
+pub fn read(call: usize, s: &[u8], to: &mut [u8; BYTES_MOST]) -> Arguments
+    requires { ⌜ length (now s) ≤ lineMost ⌝ }
     ensures { λ r. ⌜ (r .number ≤ roomMost) × (r .count ≤ length (now (to .exit))) ⌝ }
 {
     let form = form_of(call);
-    let number = read_number(0 < form.most, s, at, form.most);
+    let number = read_number(0 < form.most, s, 0, form.most);
     let code = read_number(form.code, s, number.next, BYTE_MOST);
     let bytes = read_bytes(form.bytes, s, code.next, to);
     Arguments {

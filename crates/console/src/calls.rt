@@ -1,5 +1,5 @@
-// The calls: the words of a line are read from at on, the call's entry is called and the answer line written. Each function over a
-// line gives the answer's length, or UNREAD, with nothing changed, where the words do not fit.
+// The calls: the words of a line after its name are read, the call's entry is called and the answer line written. Each function over
+// these words gives the answer's length, or UNREAD, with nothing changed, where they do not fit.
 use crate::arguments;
 use crate::arguments::Arguments;
 use card::Outcome;
@@ -15,8 +15,7 @@ use lines::UNREAD;
 use lines::text;
 ghost use Prim.Native.Nat.{_≤_, _<_};
 ghost use lib.ListN.{length};
-ghost use Rattle.lines.specs.Lent.{answerMost};
-ghost use Rattle.console.specs.Lent.{Line};
+ghost use Rattle.lines.specs.Lent.{lineMost, answerMost};
 
 // The lines of the calls, as `help` writes them.
 pub const CALLS: [u8; 274] =
@@ -136,14 +135,13 @@ fn on_card(
     memory: &mut [u8; MEMORY],
     pending: &mut [u8; PENDING],
     s: &[u8],
-    at: usize,
     out: &mut [u8; ANSWER_MOST],
 ) -> usize
-    requires { ⌜ Line (now s) at ⌝ }
+    requires { ⌜ length (now s) ≤ lineMost ⌝ }
     ensures { λ r. ⌜ r < answerMost ⌝ }
 {
     let mut f = [0u8; BYTES_MOST];
-    let a = arguments::read(call, s, at, &mut f);
+    let a = arguments::read(call, s, &mut f);
     if !a.right {
         return UNREAD;
     }
@@ -166,10 +164,10 @@ fn on_card(
 }
 
 // help
-fn help(s: &[u8], at: usize, out: &mut [u8; ANSWER_MOST]) -> usize
+fn help(s: &[u8], out: &mut [u8; ANSWER_MOST]) -> usize
     ensures { λ r. ⌜ r < answerMost ⌝ }
 {
-    if at < s.len() {
+    if 0 < s.len() {
         return UNREAD;
     }
     let calls = text::put_words(out, 0, b"calls: ");
@@ -183,19 +181,18 @@ pub fn call(
     memory: &mut [u8; MEMORY],
     pending: &mut [u8; PENDING],
     s: &[u8],
-    at: usize,
     out: &mut [u8; ANSWER_MOST],
 ) -> usize
-    requires { ⌜ Line (now s) at ⌝ }
+    requires { ⌜ length (now s) ≤ lineMost ⌝ }
     ensures { λ r. ⌜ r < answerMost ⌝ }
 {
     if number <= LOAD {
-        return on_card(number, words, memory, pending, s, at, out);
+        return on_card(number, words, memory, pending, s, out);
     }
     match number {
-        POKE => tables::poke(words, memory, pending, s, at, out),
-        PEEK => tables::peek(words, memory, pending, s, at, out),
-        HELP => help(s, at, out),
+        POKE => tables::poke(words, memory, pending, s, 0, out),
+        PEEK => tables::peek(words, memory, pending, s, 0, out),
+        HELP => help(s, out),
         _ => UNREAD,
     }
 }

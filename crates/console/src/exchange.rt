@@ -13,10 +13,9 @@ use master::Verdict;
 use master::request::Kind;
 ghost use Prim.Native.Nat.{_+_, _≤_};
 ghost use lib.ListN.{length, take};
-ghost use Rattle.lines.specs.Lent.{answerMost, roomMost};
+ghost use Rattle.lines.specs.Lent.{lineMost, answerMost, roomMost};
 ghost use Rattle.lines.specs.Text.{Put};
 ghost use Rattle.console.specs.Held.{Held, Answered};
-ghost use Rattle.console.specs.Lent.{Line};
 ghost use Rattle.console.specs.Stepped.{verdictMost, verdictOf, stepped, steppedMost};
 
 // A request and how far its exchange went. The bytes asked for, or the masks, and the states stand at the front of two lent buffers.
@@ -58,7 +57,7 @@ struct Sent {
     states: usize,
 }
 
-// BYTES, or MASKS / STATES, which go to two buffers.
+// BYTES, or MASKS / STATES, which go to two buffers. Where a line ends after its BYTES there are no states to read.
 fn read_sent(
     s: &[u8],
     at: usize,
@@ -66,16 +65,16 @@ fn read_sent(
     to: &mut [u8; BYTES_MOST],
     back: &mut [u8; BYTES_MOST],
 ) -> Sent
-    requires { ⌜ Line (now s) at ⌝ }
+    requires { ⌜ (at ≤ length (now s)) × (length (now s) ≤ lineMost) ⌝ }
     ensures { λ r. ⌜ Held (r .sent) (r .states) ⌝ }
 {
     let sent = line::read_bytes(s, at, to);
     let slash = line::read_name(s, sent.next, b"/");
     let states = line::read_bytes(s, slash.next, back);
-    let one = sent.next == s.len();
-    let two = (slash.number == 0) & (states.next == s.len());
+    let change = sent.next == s.len();
+    let bits = (slash.number == 0) & (states.next == s.len());
     Sent {
-        right: (one & !is_bits) | (two & is_bits),
+        right: (change & !is_bits) | (bits & is_bits),
         sent: sent.count,
         states: states.count,
     }
@@ -90,16 +89,11 @@ fn kind_of(is_bits: bool) -> Kind {
 }
 
 // The request that a line asks for; where it cannot be read, none is asked.
-fn read_request(
-    s: &[u8],
-    at: usize,
-    to: &mut [u8; BYTES_MOST],
-    back: &mut [u8; BYTES_MOST],
-) -> Exchange
-    requires { ⌜ Line (now s) at ⌝ }
+fn read_request(s: &[u8], to: &mut [u8; BYTES_MOST], back: &mut [u8; BYTES_MOST]) -> Exchange
+    requires { ⌜ length (now s) ≤ lineMost ⌝ }
     ensures { λ r. ⌜ Held (r .sent) (r .states) ⌝ }
 {
-    let how = line::read_name(s, at, b"change; bits");
+    let how = line::read_name(s, 0, b"change; bits");
     let ia = line::read_number(s, how.next, u32::MAX);
     let address = line::read_number(s, ia.next, u32::MAX);
     let is_bits = how.number == 1;
@@ -116,21 +110,21 @@ fn read_request(
     }
 }
 
-// request change IA ADDRESS BYTES or request bits IA ADDRESS MASKS / STATES
+// request change IA ADDRESS BYTES or request bits IA ADDRESS MASKS / STATES. Its bytes are read apart: a line that cannot be read
+// leaves the kept ones as they are.
 pub fn request(
     e: Exchange,
     s: &[u8],
-    at: usize,
     sent: &mut [u8; BYTES_MOST],
     states: &mut [u8; BYTES_MOST],
     out: &mut [u8; ANSWER_MOST],
 ) -> Answer
-    requires { ⌜ Line (now s) at × Held (e .sent) (e .states) ⌝ }
+    requires { ⌜ (length (now s) ≤ lineMost) × Held (e .sent) (e .states) ⌝ }
     ensures { λ r. ⌜ Answered (r .len) (r .exchange .sent) (r .exchange .states) ⌝ }
 {
     let mut f = [0u8; BYTES_MOST];
     let mut g = [0u8; BYTES_MOST];
-    let new = read_request(s, at, &mut f, &mut g);
+    let new = read_request(s, &mut f, &mut g);
     if !new.asked {
         return Answer {
             len: UNREAD,
@@ -233,16 +227,15 @@ fn take_step(
 pub fn step(
     e: Exchange,
     s: &[u8],
-    at: usize,
     sent: &[u8; BYTES_MOST],
     states: &[u8; BYTES_MOST],
     out: &mut [u8; ANSWER_MOST],
 ) -> Answer
-    requires { ⌜ Line (now s) at × Held (e .sent) (e .states) ⌝ }
+    requires { ⌜ (length (now s) ≤ lineMost) × Held (e .sent) (e .states) ⌝ }
     ensures { λ r. ⌜ Answered (r .len) (r .exchange .sent) (r .exchange .states) ⌝ }
 {
     let mut f = [0u8; BYTES_MOST];
-    let a = arguments::read(STEP, s, at, &mut f);
+    let a = arguments::read(STEP, s, &mut f);
     if !a.right {
         return Answer {
             len: UNREAD,

@@ -21,9 +21,9 @@ use lines::text;
 ghost use mathlib.Core.Path.{_≡_};
 ghost use Prim.Native.Nat.{_+_, _≤_, _<_};
 ghost use lib.ListN.{length};
-ghost use Rattle.lines.specs.Lent.{answerMost, listMost};
+ghost use Rattle.lines.specs.Lent.{lineMost, answerMost, listMost};
 ghost use Rattle.console.specs.Held.{Held, Answered};
-ghost use Rattle.console.specs.Lent.{Line, readMost, aroundMost};
+ghost use Rattle.console.specs.Lent.{readMost, aroundMost};
 
 // A line that starts with this is a note.
 const NOTE: u8 = b'#';
@@ -148,7 +148,7 @@ fn tell(number: usize, from: usize, len: usize, out: &mut [u8; ANSWER_MOST]) -> 
     io::write_all(STDOUT_FILENO, &line[..n + 1])
 }
 
-// The call of a number, its words from at on.
+// The call of a number, with the words s after its name.
 fn run(
     number: usize,
     words: &mut [u32; WORDS],
@@ -158,19 +158,18 @@ fn run(
     states: &mut [u8; BYTES_MOST],
     e: Exchange,
     s: &[u8],
-    at: usize,
     out: &mut [u8; ANSWER_MOST],
 ) -> Answer
-    requires { ⌜ Line (now s) at × Held (e .sent) (e .states) ⌝ }
+    requires { ⌜ (length (now s) ≤ lineMost) × Held (e .sent) (e .states) ⌝ }
     ensures { λ r. ⌜ Answered (r .len) (r .exchange .sent) (r .exchange .states) ⌝ }
 {
     if number == calls::REQUEST {
-        return exchange::request(e, s, at, sent, states, out);
+        return exchange::request(e, s, sent, states, out);
     }
     if number == calls::STEP {
-        return exchange::step(e, s, at, sent, states, out);
+        return exchange::step(e, s, sent, states, out);
     }
-    let len = calls::call(number, words, memory, pending, s, at, out);
+    let len = calls::call(number, words, memory, pending, s, out);
     Answer { len, exchange: e }
 }
 
@@ -194,6 +193,7 @@ pub fn go_on(
     let input = input::next(buffer, text, taken);
     let line: &[u8] = text;
     let question = read_line(line, input.n, input.whole);
+    let next = question.next;
     let end = question.end;
     let did = run(
         question.number,
@@ -203,8 +203,7 @@ pub fn go_on(
         sent,
         states,
         e,
-        &line[..end],
-        question.next,
+        &line[next..end],
         out,
     );
     let written = tell(question.number, question.from, did.len, out);
