@@ -18,7 +18,7 @@ pair-requires c κs = let h = c .before .before .before .pre (told-yes (c .befor
 
 returns-2 : tie.Need-returns-2
 unfolding addressKnown
-returns-2 c = yes _ _ _ _ (told-yes (c .before .before .has-address .ensures) (c .before .if1 .left)) (cc)
+returns-2 c = yes _ _ _ _ (told-yes (c .before .before .has-address .ensures) (c .before .if1 .left)) (rw (← c .pair .ensures .0))
 
 pub address-known-spec : {M : Type 1} → statement M
 address-known-spec = tie.close (tie.spec has-address-requires returns pair-requires returns-2)

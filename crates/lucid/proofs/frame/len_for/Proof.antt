@@ -34,7 +34,7 @@ mul-result c = record { fits = lt-of-le-of-lt (mul-le-mul (c .before .before .si
 returns-2 : tie.Need-returns-2
 unfolding lenFor
 returns-2 c = let tested = c .before .before .before in
-    no _ _ _ _ (told-false (tested .before .before .before .is-get .ensures) (tested .before .before .if1 .left)) (yes _ _ _ _ (told-true (tested .before .is-set .ensures) (tested .if2 .taken)) (cc))
+    no _ _ _ _ (told-false (tested .before .before .before .is-get .ensures) (tested .before .before .if1 .left)) (yes _ _ _ _ (told-true (tested .before .is-set .ensures) (tested .if2 .taken)) (rw (← c .before .before .size .ensures .0, ← c .before .mask-of .ensures, ← c .count .ensures .0)))
 
 returns-3 : tie.Need-returns-3
 unfolding lenFor

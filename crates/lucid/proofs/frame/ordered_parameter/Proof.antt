@@ -27,7 +27,7 @@ value-in-requires c κs = c .before .before .before .before .before .pre .1 .1 (
 returns-2 : tie.Need-returns-2
 unfolding orderedParameter
 returns-2 c = let place = c .before .before .before .place-of .ensures ∙ ap (placeOf _) (c .before .before .before .before .pair .ensures .0) in
-    no _ _ _ _ (ne-eqb _ _ (c .before .before .if1 .left)) (cc (place, c .before .is-saved .ensures, c .value-in .ensures))
+    no _ _ _ _ (ne-eqb _ _ (c .before .before .if1 .left)) (rw (← place, ← c .before .is-saved .ensures, ← c .value-in .ensures))
 
 pub ordered-parameter-spec : {M : Type 1} → statement M
 ordered-parameter-spec =

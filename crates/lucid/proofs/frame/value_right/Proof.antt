@@ -24,7 +24,8 @@ in-range-requires c κs = search needs
 
 returns-2 : tie.Need-returns-2
 unfolding valueRight
-returns-2 c = yes _ _ _ _ (told-yes (c .before .before .before .before .has-value .ensures) (c .before .before .before .if1 .left)) (cc)
+returns-2 c = yes _ _ _ _ (told-yes (c .before .before .before .before .has-value .ensures) (c .before .before .before .if1 .left))
+    (rw (← c .before .value-in .ensures, ← c .before .before .pair .ensures .0) (c .in-range .ensures))
 
 pub value-right-spec : {M : Type 1} → statement M
 value-right-spec =
