@@ -204,7 +204,7 @@ pub fn next_entry(list: &[u8], from: usize) -> usize
 }
 
 // How long the first word of the entry at from is.
-pub fn name_len(list: &[u8], from: usize) -> usize
+fn name_len(list: &[u8], from: usize) -> usize
     requires { ⌜ from ≤ length (now list) ⌝ }
     ensures { λ r. ⌜ from + r ≤ length (now (list .entry)) ⌝ }
 {
@@ -213,7 +213,7 @@ pub fn name_len(list: &[u8], from: usize) -> usize
 }
 
 // Whether the entry at from has word as its first word.
-pub fn is_named(list: &[u8], from: usize, word: &[u8]) -> bool
+fn is_named(list: &[u8], from: usize, word: &[u8]) -> bool
     requires { ⌜ from ≤ length (now list) ⌝ }
 {
     if name_len(list, from) != word.len() {
