@@ -26,7 +26,7 @@ unfolding overlay
 answer-fits g = rw (g .measured, g .written, length-append) (omega arith)
 
 -- and so is the frame of a master's step
-pub frame-fits : {m : Move} {frame frame′ : List ℕ} {number len : ℕ} {phase : Phase} → Stepped m frame number len phase frame′ → len ≤ length frame′
+pub frame-fits : {m : Move Phase} {frame frame′ : List ℕ} {number len : ℕ} {phase : Phase} → Stepped m frame number len phase frame′ → len ≤ length frame′
 unfolding overlay
 frame-fits g = rw (g .measured, g .written, length-append) (omega arith)
 

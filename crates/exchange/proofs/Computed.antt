@@ -36,14 +36,14 @@ computed = tt
 
 -- the premise word for word, as a test
 
-abbrev allowsCall : Build → World → Call → Bool
+abbrev allowsCall : {State : Type 0} → Build State → World State → Call → Bool
 allowsCall b w (Step choice room) = true
 allowsCall b w (Arrival room) = leb (w .line .arrivals) 1
 allowsCall b w Restart = true
 allowsCall b w (Datalink room f) = not (writes (asked (iaOf (w .card)) f)) || refused (b .datalink (w .card) room f .number)
 allowsCall b w (Other e) = true
 
-unfoldable pub allows : Build → Request → World → List Call → Bool
+unfoldable pub allows : {State : Type 0} → Build State → Request → World State → List Call → Bool
 allows b q w [] = true
 allows b q w (c ∷ calls) = allowsCall b w c && allows b q (called b q w c) calls
 
@@ -51,14 +51,14 @@ or-holds : (s t : Bool) → (not s || t) ≡ true → s ≡ true → t ≡ true
 or-holds true t e h = e
 or-holds false t e h = let z : _≡_ {A = ℕ} 0 1 = cc in let y : ⊥ = omega arith in absurd y
 
-allowed-call : (b : Build) (w : World) (c : Call) → allowsCall b w c ≡ true → AtMostTwice w c × Quiet b w c
+allowed-call : {State : Type 0} (b : Build State) (w : World State) (c : Call) → allowsCall b w c ≡ true → AtMostTwice w c × Quiet b w c
 allowed-call b w (Step choice room) e = (tt, tt)
 allowed-call b w (Arrival room) e = (leb-true (w .line .arrivals) 1 e, tt)
 allowed-call b w Restart e = (tt, tt)
 allowed-call b w (Datalink room f) e = (tt, or-holds (writes (asked (iaOf (w .card)) f)) (refused (b .datalink (w .card) room f .number)) e)
 allowed-call b w (Other x) e = (tt, tt)
 
-pub allowed : (b : Build) (q : Request) (w : World) (calls : List Call) → allows b q w calls ≡ true → AsWorded b q w calls
+pub allowed : {State : Type 0} (b : Build State) (q : Request) (w : World State) (calls : List Call) → allows b q w calls ≡ true → AsWorded b q w calls
 unfolding allows AsWorded
 allowed b q w [] e = tt
 allowed b q w (c ∷ calls) e =
@@ -89,3 +89,7 @@ alone = Step none 38
 
 abbrev pub arrives : Call
 arrives = Arrival 38
+
+-- three rounds without loss
+abbrev pub whole : List Call
+whole = alone ∷ arrives ∷ hears ∷ arrives ∷ alone ∷ arrives ∷ hears ∷ []

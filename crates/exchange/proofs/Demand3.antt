@@ -43,16 +43,16 @@ restarted-line q start card EndedUnknown line v = record { settled = v .settled;
 
 module _ (q : Request) (a : Accepted q) (start : Card) where
   -- each call keeps the invariant
-  one-call : (w : World) (c : Call) → Quiet asWritten w c → Inv q start w → Inv q start (called asWritten q w c)
+  one-call : (w : World Phase) (c : Call) → Quiet asWritten w c → Inv q start w → Inv q start (called asWritten q w c)
   unfolding called
-  one-call w (Step choice room) h v = stepping q start (w .card) (w .line) choice (w .phase) room v
-  one-call w (Arrival room) h v = arriving q a start (w .card) (w .line) room (w .phase) v
+  one-call w (Step choice room) h v = stepping q start (w .card) a (w .line) choice (w .state) room v
+  one-call w (Arrival room) h v = arriving q a start (w .card) (w .line) room (w .state) v
   one-call w Restart h v =
-      mildly q start (w .card) _ (mild-restart (w .card)) (w .phase) (afterRestart (w .line)) (restarted-line q start (w .card) (w .phase) (w .line) v)
-  one-call w (Datalink room f) h v = mildly q start (w .card) _ (mild-self (w .card) _ (other-arrives (w .card) room f h)) (w .phase) (w .line) v
-  one-call w (Other e) h v = mildly q start (w .card) _ (mild-entry (w .card) e) (w .phase) (w .line) v
+      mildly q start (w .card) _ (mild-restart (w .card)) (w .state) (afterRestart (w .line)) (restarted-line q start (w .card) (w .state) (w .line) v)
+  one-call w (Datalink room f) h v = mildly q start (w .card) _ (mild-self (w .card) _ (other-arrives (w .card) room f h)) (w .state) (w .line) v
+  one-call w (Other e) h v = mildly q start (w .card) _ (mild-entry (w .card) e) (w .state) (w .line) v
 
-  all-calls : (w : World) (calls : List Call) → AllQuiet asWritten q w calls → Inv q start w → Inv q start (run asWritten q w calls)
+  all-calls : (w : World Phase) (calls : List Call) → AllQuiet asWritten q w calls → Inv q start w → Inv q start (run asWritten q w calls)
   unfolding run AllQuiet
   all-calls w [] h v = v
   all-calls w (c ∷ calls) h v = all-calls (called asWritten q w c) calls (h .1) (one-call w c (h .0) v)
@@ -108,7 +108,7 @@ module _ (q : Request) (start : Card) where
   early-in EndedDone card line v h = v .early h
   early-in EndedUnknown card line v h = v .early h
 
-  module _ (w : World) where
+  module _ (w : World Phase) where
     whole-of : Settled q start (w .card) → ((x : ℕ) → Writable x → Named q x → Old start w x) ⊎ ((x : ℕ) → Writable x → Named q x → AsAsked q start w x)
     whole-of (inl s) = inl (λ x h n. old-at (w .card) s x h)
     whole-of (inr s) = inr (λ x h n. asked-at (w .card) (s .range .low) (s .asked .asked) x n)
@@ -120,19 +120,19 @@ module _ (q : Request) (start : Card) where
         (λ i g e. n (record { low = omega (arith, s .range .low, h .low); high = omega (arith, s .range .low, h .low) }))
 
     -- the clauses follow from the invariant
-    clauses : Inv q start w → Demand3 q start w
+    clauses : Inv q start w → Demand3 asWritten q start w
     unfolding choose
     clauses v =
-        let settled = settled-in (w .phase) (w .card) (w .line) v in
-        let sure = sure-in (w .phase) (w .card) (w .line) v in
-        let steady = due-in (w .phase) (w .card) (w .line) v in
+        let settled = settled-in (w .state) (w .card) (w .line) v in
+        let sure = sure-in (w .state) (w .card) (w .line) v in
+        let steady = due-in (w .state) (w .card) (w .line) v in
         record {
           whole = whole-of settled;
           others = others-of settled;
           sure = λ e x n. let f = sure e in asked-at (w .card) (f .range .low) (f .asked) x n;
           third = λ e _ _. steady (ap allLossless e) ∙ ap due e;
           steady = steady;
-          untouched = λ h x u. old-at (w .card) (early-in (w .phase) (w .card) (w .line) v h) x u;
+          untouched = λ h x u. old-at (w .card) (early-in (w .state) (w .card) (w .line) v h) x u;
           within = λ e x n.
               let r = sure e .range in
               record { low = omega (arith, n .low, r .above (x - q .address) (omega (arith, n .low, n .high))); high = omega (arith, n .high, r .high) };
@@ -140,18 +140,18 @@ module _ (q : Request) (start : Card) where
 
 -- DEMAND 3. For every request that 7 does not refuse, any tables, fit or not, and every list of calls throughout which the card accepts no other Datalink change or acknowledge,
 -- the claim holds after the list. A frame may arrive any number of times in its round.
-pub demand-3 : (q : Request) (start : Card) (calls : List Call) → askable q ≡ true → AllQuiet asWritten q (begin start) calls → Demand3 q start (run asWritten q (begin start) calls)
+pub demand-3 : (q : Request) (start : Card) (calls : List Call) → askable q ≡ true → AllQuiet asWritten q (begin asWritten start) calls → Demand3 asWritten q start (run asWritten q (begin asWritten start) calls)
 demand-3 q start calls e quiet =
     let a = accepted q e in
-    clauses q start (run asWritten q (begin start) calls)
-    (all-calls q a start (begin start) calls quiet (record { old = record { at = λ j h. refl }; frame = refl; frames = refl; closed = refl }))
+    clauses q start (run asWritten q (begin asWritten start) calls)
+    (all-calls q a start (begin asWritten start) calls quiet (record { old = record { at = λ j h. refl }; frame = refl; frames = refl; closed = refl }))
 
 -- the premise word for word, a frame arriving at most twice in its round, is the narrower one
-quiet-worded : (q : Request) (w : World) (calls : List Call) → AsWorded asWritten q w calls → AllQuiet asWritten q w calls
+quiet-worded : (q : Request) (w : World Phase) (calls : List Call) → AsWorded asWritten q w calls → AllQuiet asWritten q w calls
 unfolding AllQuiet AsWorded
 quiet-worded q w [] h = tt
 quiet-worded q w (c ∷ calls) h = (h .0 .1, quiet-worded q (called asWritten q w c) calls (h .1))
 
 -- DEMAND 3 word for word
-pub demand-3-as-worded : (q : Request) (start : Card) (calls : List Call) → askable q ≡ true → AsWorded asWritten q (begin start) calls → Demand3 q start (run asWritten q (begin start) calls)
-demand-3-as-worded q start calls e h = demand-3 q start calls e (quiet-worded q (begin start) calls h)
+pub demand-3-as-worded : (q : Request) (start : Card) (calls : List Call) → askable q ≡ true → AsWorded asWritten q (begin asWritten start) calls → Demand3 asWritten q start (run asWritten q (begin asWritten start) calls)
+demand-3-as-worded q start calls e h = demand-3 q start calls e (quiet-worded q (begin asWritten start) calls h)

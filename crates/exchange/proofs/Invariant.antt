@@ -122,8 +122,8 @@ InvAt q start Reading card line = AtReading q start card line
 InvAt q start EndedDone card line = AtEnd q start Done card line
 InvAt q start EndedUnknown card line = AtEnd q start Unknown card line
 
-abbrev pub Inv : Request → Card → World → Type 0
-Inv q start w = InvAt q start (w .phase) (w .card) (w .line)
+abbrev pub Inv : Request → Card → World Phase → Type 0
+Inv q start w = InvAt q start (w .state) (w .card) (w .line)
 
 -- memory that stays
 

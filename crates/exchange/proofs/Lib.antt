@@ -8,3 +8,4 @@ pub mod Demand3
 pub mod Computed
 pub mod Runs
 pub mod Refuted
+pub mod InC

@@ -1,11 +1,13 @@
 -- The claim says something: runs that break a clause, without the premise, with a wrong master and with a wrong card. Assumes nothing.
 use mathlib.Core.Path.{_≡_, refl}
+use mathlib.Core.Logic.{⊎-elim}
 use mathlib.Core.Bool.{true}
 use mathlib.Core.List.{List, [], _∷_}
 use Prim.{tt}
 use Prim.Native.Nat.{ℕ}
 use native.Mathlib.Omega.{arith}
 use lib.Dec.{leb, eqb, lit≤, lit<}
+use lib.ListN.{set, getD}
 use Rattle.wire.specs.Choose.{choose}
 use Rattle.card.specs.Numbers.{answered, bufferShort, valueOutside, nothingPending, done}
 use Rattle.card.specs.Layout.{Card, cardOf}
@@ -16,10 +18,12 @@ use Rattle.datalink.specs.Answer.{iaOf, appliedTo, datalinkReply}
 use Rattle.datalink.specs.declared.frame.Order.{Order}
 use Rattle.datalink.specs.declared.frame.Order.the-variants.{Refused, Interrogate, Change, Acknowledge}
 use Rattle.master.specs.Request.{Request, askable}
+use Rattle.master.specs.Request.Ask.{bytes}
 use Rattle.master.specs.Frames.{body, changeFrame, acknowledgeFrame, interrogateFrame, isEcho, confirms}
-use Rattle.master.specs.Step.{Move, sends, ends, refuses, stepOf}
+use Rattle.master.specs.Step.{Move, saysOf, sends, ends, refuses, stepOf}
 use Rattle.master.specs.declared.Phase.{Phase}
 use Rattle.master.specs.declared.Phase.the-variants.{New, Changing, Acknowledging, Reading, EndedDone, EndedUnknown}
+use Rattle.master.specs.declared.Verdict.{Verdict}
 use Rattle.master.specs.declared.Verdict.the-variants.{Open, Done, Unknown}
 use Rattle.exchange.specs.Calls.{Call, Entry, replyOf}
 use Rattle.exchange.specs.Calls.Choice.{none}
@@ -28,7 +32,7 @@ use Rattle.exchange.specs.Calls.Entry.{SetCode, Governor, Lecom, Love, L
 use Rattle.exchange.specs.Line.{Build, begin, asWritten, run}
 use Rattle.exchange.specs.Premise.{AsWorded}
 use Rattle.exchange.specs.Demand.{Writable, Named, Demand3}
-use Rattle.exchange.proofs.Computed.{computed, allows, allowed, fresh, stale, two, hears, alone, arrives}
+use Rattle.exchange.proofs.Computed.{computed, allows, allowed, fresh, stale, two, hears, alone, arrives, whole}
 
 free : Writable 0x1020
 free = record { low = lit≤ tt; high = lit< tt }
@@ -42,136 +46,181 @@ first-named = record { low = lit≤ tt; high = lit< tt }
 -- without the premise
 
 -- another's change, accepted between echo and acknowledge
-another-change : Demand3 two fresh (run asWritten two (begin fresh) (alone ∷ arrives ∷ hears ∷ Datalink 38 (framed 0xA3 (body 1 0x1020 (7 ∷ []))) ∷ arrives ∷ [])) → ⊥
+another-change : Demand3 asWritten two fresh (run asWritten two (begin asWritten fresh) (alone ∷ arrives ∷ hears ∷ Datalink 38 (framed 0xA3 (body 1 0x1020 (7 ∷ []))) ∷ arrives ∷ [])) → ⊥
 unfolding computed
 another-change h = let e : _≡_ {A = ℕ} 7 255 = h .others 0x1020 free not-named in omega arith
 
 -- another's acknowledge, accepted before the first step, where a change is pending from before
-another-acknowledge : Demand3 two stale (run asWritten two (begin stale) (Datalink 38 (0x7E ∷ 0x83 ∷ []) ∷ [])) → ⊥
+another-acknowledge : Demand3 asWritten two stale (run asWritten two (begin asWritten stale) (Datalink 38 (0x7E ∷ 0x83 ∷ []) ∷ [])) → ⊥
 unfolding computed
 another-acknowledge h = let e : _≡_ {A = ℕ} 7 255 = h .others 0x1020 free not-named in omega arith
 
 -- a build that a run refutes: the premise, word for word, allows it, and a clause is broken
-pub record Refuted (b : Build) : Type 0 where
+pub record Refuted {State : Type 0} (b : Build State) : Type 0 where
   pub request : Request
   pub accepted : askable request ≡ true
   pub start : Card
   pub calls : List Call
-  pub worded : AsWorded b request (begin start) calls
-  pub broken : Demand3 request start (run b request (begin start) calls) → ⊥
+  pub worded : AsWorded b request (begin b start) calls
+  pub broken : Demand3 b request start (run b request (begin b start) calls) → ⊥
 
--- wrong masters, with the right card: 7 and 11 as they should be, and other moves
+-- such a run of a request to a card, where both tests compute
+refuted : {State : Type 0} (b : Build State) (q : Request) (start : Card) (calls : List Call) → askable q ≡ true → allows b q (begin b start) calls ≡ true
+    → (Demand3 b q start (run b q (begin b start) calls) → ⊥) → Refuted b
+refuted b q start calls e a broken = record { request = q; accepted = e; start = start; calls = calls; worded = allowed b q (begin b start) calls a; broken = broken }
 
-abbrev masterOf : (Request → Phase → List ℕ → Move) → Build
-masterOf moves =
+-- wrong masters, with the right card
+
+-- a master by what it does in each phase before the end; 7, 11 and 10 are as they should be
+abbrev Moves : Type 0
+Moves = Request → List ℕ → Move Phase
+
+unfoldable moved : Moves → Moves → Moves → Moves → Request → Phase → List ℕ → Move Phase
+moved new changing acknowledging reading q New got = new q got
+moved new changing acknowledging reading q Changing got = changing q got
+moved new changing acknowledging reading q Acknowledging got = acknowledging q got
+moved new changing acknowledging reading q Reading got = reading q got
+moved new changing acknowledging reading q EndedDone got = refuses nothingPending EndedDone
+moved new changing acknowledging reading q EndedUnknown got = refuses nothingPending EndedUnknown
+
+abbrev masterOf : Moves → Moves → Moves → Moves → Build Phase
+masterOf new changing acknowledging reading =
     record {
-      step = λ q phase got room. choose (askable q) (choose (leb longest room) (moves q phase got) (refuses bufferShort phase)) (refuses valueOutside phase);
+      new = New;
+      says = saysOf;
+      step = λ q phase got room.
+          choose (askable q) (choose (leb longest room) (moved new changing acknowledging reading q phase got) (refuses bufferShort phase)) (refuses valueOutside phase);
       datalink = datalinkReply;
       restart = restart;
       entry = replyOf;
     }
 
+-- what the right master does in each phase
+abbrev changes : Moves
+changes q got = sends (changeFrame q) Changing
+
+abbrev acknowledges : Moves
+acknowledges q got = choose (isEcho q got) (sends (acknowledgeFrame q) Acknowledging) (ends EndedUnknown)
+
+abbrev interrogates : Moves
+interrogates q got = sends (interrogateFrame q) Reading
+
+abbrev concludes : Moves
+concludes q got = choose (confirms q got) (ends EndedDone) (ends EndedUnknown)
+
+abbrev stops : Moves
+stops q got = ends EndedUnknown
+
 said : {A : Type 0} → Unknown ≡ Done → A
 said e = let z : _≡_ {A = ℕ} 0 1 = cc in let y : ⊥ = omega arith in absurd y
-
--- one that always says unknown
-unfoldable alwaysUnknown : Request → Phase → List ℕ → Move
-alwaysUnknown q New got = sends (changeFrame q) Changing
-alwaysUnknown q Changing got = choose (isEcho q got) (sends (acknowledgeFrame q) Acknowledging) (ends EndedUnknown)
-alwaysUnknown q Acknowledging got = sends (interrogateFrame q) Reading
-alwaysUnknown q Reading got = ends EndedUnknown
-alwaysUnknown q EndedDone got = refuses nothingPending EndedDone
-alwaysUnknown q EndedUnknown got = refuses nothingPending EndedUnknown
-
-refute-always-unknown : Refuted (masterOf alwaysUnknown)
-unfolding computed allows alwaysUnknown
-refute-always-unknown =
-    let calls : List Call = alone ∷ arrives ∷ hears ∷ arrives ∷ alone ∷ arrives ∷ hears ∷ [] in
-    record { request = two; accepted = refl; start = fresh; calls = calls; worded = allowed (masterOf alwaysUnknown) two (begin fresh) calls refl; broken = λ h. said (h .third refl refl refl) }
-
--- one that gives up after an exact echo: the customer's clauses do not catch it, since it never closes a third round; `steady` does
-unfoldable givesUp : Request → Phase → List ℕ → Move
-givesUp q New got = sends (changeFrame q) Changing
-givesUp q Changing got = ends EndedUnknown
-givesUp q Acknowledging got = ends EndedUnknown
-givesUp q Reading got = ends EndedUnknown
-givesUp q EndedDone got = refuses nothingPending EndedDone
-givesUp q EndedUnknown got = refuses nothingPending EndedUnknown
 
 gave-up : {A : Type 0} → Unknown ≡ Open → A
 gave-up e = let z : _≡_ {A = ℕ} 0 1 = cc in let y : ⊥ = omega arith in absurd y
 
-refute-gives-up : Refuted (masterOf givesUp)
-unfolding computed allows givesUp
-refute-gives-up =
-    let calls : List Call = alone ∷ arrives ∷ hears ∷ [] in
-    record { request = two; accepted = refl; start = fresh; calls = calls; worded = allowed (masterOf givesUp) two (begin fresh) calls refl; broken = λ h. gave-up (h .steady refl) }
+-- one that always says unknown
+abbrev alwaysUnknown : Build Phase
+alwaysUnknown = masterOf changes acknowledges interrogates stops
+
+refute-always-unknown : Refuted alwaysUnknown
+unfolding computed allows moved
+refute-always-unknown = refuted alwaysUnknown two fresh whole refl refl (λ h. said (h .third refl refl refl))
+
+-- one that always says unknown and sends its change twice, so that the acknowledge is its third frame
+abbrev dawdles : Build Phase
+dawdles =
+    masterOf changes (λ q got. choose (isEcho q got) (sends (changeFrame q) Acknowledging) (ends EndedUnknown))
+    (λ q got. sends (acknowledgeFrame q) Reading) stops
+
+refute-dawdles : Refuted dawdles
+unfolding computed allows moved
+refute-dawdles = refuted dawdles two fresh (alone ∷ arrives ∷ hears ∷ arrives ∷ hears ∷ arrives ∷ alone ∷ []) refl refl (λ h. said (h .third refl refl refl))
+
+-- one that gives up after an exact echo: the customer's clauses do not catch it, since it never closes a third round; `steady` does
+abbrev givesUp : Build Phase
+givesUp = masterOf changes stops stops stops
+
+refute-gives-up : Refuted givesUp
+unfolding computed allows moved
+refute-gives-up = refuted givesUp two fresh (alone ∷ arrives ∷ hears ∷ []) refl refl (λ h. gave-up (h .steady refl))
 
 -- one that says done on the echo
-unfoldable doneOnEcho : Request → Phase → List ℕ → Move
-doneOnEcho q New got = sends (changeFrame q) Changing
-doneOnEcho q Changing got = choose (isEcho q got) (ends EndedDone) (ends EndedUnknown)
-doneOnEcho q Acknowledging got = ends EndedUnknown
-doneOnEcho q Reading got = ends EndedUnknown
-doneOnEcho q EndedDone got = refuses nothingPending EndedDone
-doneOnEcho q EndedUnknown got = refuses nothingPending EndedUnknown
+abbrev doneOnEcho : Build Phase
+doneOnEcho = masterOf changes (λ q got. choose (isEcho q got) (ends EndedDone) (ends EndedUnknown)) stops stops
 
-refute-done-on-echo : Refuted (masterOf doneOnEcho)
-unfolding computed allows doneOnEcho
+refute-done-on-echo : Refuted doneOnEcho
+unfolding computed allows moved
 refute-done-on-echo =
-    let calls : List Call = alone ∷ arrives ∷ hears ∷ [] in
-    record {
-      request = two;
-      accepted = refl;
-      start = fresh;
-      calls = calls;
-      worded = allowed (masterOf doneOnEcho) two (begin fresh) calls refl;
-      broken = λ h. let e : _≡_ {A = ℕ} 255 8 = h .sure refl 0x1010 first-named in omega arith;
-    }
+    refuted doneOnEcho two fresh (alone ∷ arrives ∷ hears ∷ []) refl refl (λ h. let e : _≡_ {A = ℕ} 255 8 = h .sure refl 0x1010 first-named in omega arith)
+
+-- "a repeated echo taken for a read-back": the change is sent once more in the interrogate's place, and the acknowledge is lost
+abbrev echoAsReadBack : Build Phase
+echoAsReadBack = masterOf changes acknowledges (λ q got. sends (changeFrame q) Reading) concludes
+
+refute-echo-as-read-back : Refuted echoAsReadBack
+unfolding computed allows moved
+refute-echo-as-read-back =
+    refuted echoAsReadBack two fresh (alone ∷ arrives ∷ hears ∷ alone ∷ arrives ∷ hears ∷ []) refl refl
+    (λ h. let e : _≡_ {A = ℕ} 255 8 = h .sure refl 0x1010 first-named in omega arith)
 
 -- one that acknowledges without an exact echo, where another's change is pending from before
-unfoldable blind : Request → Phase → List ℕ → Move
-blind q New got = sends (changeFrame q) Changing
-blind q Changing got = sends (acknowledgeFrame q) Acknowledging
-blind q Acknowledging got = sends (interrogateFrame q) Reading
-blind q Reading got = choose (confirms q got) (ends EndedDone) (ends EndedUnknown)
-blind q EndedDone got = refuses nothingPending EndedDone
-blind q EndedUnknown got = refuses nothingPending EndedUnknown
+abbrev blind : Build Phase
+blind = masterOf changes (λ q got. sends (acknowledgeFrame q) Acknowledging) interrogates concludes
 
-refute-blind : Refuted (masterOf blind)
-unfolding computed allows blind
+refute-blind : Refuted blind
+unfolding computed allows moved
 refute-blind =
-    let calls : List Call = alone ∷ alone ∷ arrives ∷ [] in
-    record {
-      request = two;
-      accepted = refl;
-      start = stale;
-      calls = calls;
-      worded = allowed (masterOf blind) two (begin stale) calls refl;
-      broken = λ h. let e : _≡_ {A = ℕ} 7 255 = h .others 0x1020 free not-named in omega arith;
-    }
+    refuted blind two stale (alone ∷ alone ∷ arrives ∷ []) refl refl (λ h. let e : _≡_ {A = ℕ} 7 255 = h .others 0x1020 free not-named in omega arith)
+
+-- one that says done at once, of a byte outside memory: `byteAt` reads the first one there, and it is as asked
+abbrev doneAtOnce : Build Phase
+doneAtOnce = masterOf (λ q got. ends EndedDone) stops stops stops
+
+abbrev outside : Request
+outside = record { ia = 3; address = 0x0FFF; ask = bytes (255 ∷ []) }
+
+refute-done-outside : Refuted doneAtOnce
+unfolding computed allows moved
+refute-done-outside =
+    refuted doneAtOnce outside fresh (alone ∷ []) refl refl
+    (λ h. let w = h .within refl 0x0FFF (record { low = lit≤ tt; high = lit< tt }) in omega (arith, w .low))
 
 -- one that moves although it refuses: 11, and it says done of a change that it never sent
-unfoldable movesWhenRefused : Request → Phase → List ℕ → ℕ → Move
+unfoldable movesWhenRefused : Request → Phase → List ℕ → ℕ → Move Phase
 movesWhenRefused q phase got room = choose (leb longest room) (stepOf q phase got room) (refuses bufferShort EndedDone)
 
-refute-moves-when-refused : Refuted (record { step = movesWhenRefused; datalink = datalinkReply; restart = restart; entry = replyOf })
+abbrev restless : Build Phase
+restless = record { new = New; says = saysOf; step = movesWhenRefused; datalink = datalinkReply; restart = restart; entry = replyOf }
+
+refute-moves-when-refused : Refuted restless
 unfolding computed allows movesWhenRefused
 refute-moves-when-refused =
-    let b : Build = record { step = movesWhenRefused; datalink = datalinkReply; restart = restart; entry = replyOf } in
-    let calls : List Call = Step none 37 ∷ [] in
-    record {
-      request = two;
-      accepted = refl;
-      start = fresh;
-      calls = calls;
-      worded = allowed b two (begin fresh) calls refl;
-      broken = λ h. let e : _≡_ {A = ℕ} 255 8 = h .sure refl 0x1010 first-named in omega arith;
-    }
+    refuted restless two fresh (Step none 37 ∷ []) refl refl (λ h. let e : _≡_ {A = ℕ} 255 8 = h .sure refl 0x1010 first-named in omega arith)
+
+-- one with a state of its own: it counts its steps and says done after the fourth, whatever it heard
+abbrev sentAfter : Request → ℕ → Move ℕ
+sentAfter q n =
+    choose (eqb n 0) (sends (changeFrame q) 1)
+    (choose (eqb n 1) (sends (acknowledgeFrame q) 2)
+    (choose (eqb n 2) (sends (interrogateFrame q) 3)
+    (ends 4)))
+
+abbrev saidAfter : ℕ → Verdict
+saidAfter n = choose (eqb n 4) Done Open
+
+abbrev counts : Build ℕ
+counts = record { new = 0; says = saidAfter; step = λ q n got room. sentAfter q n; datalink = datalinkReply; restart = restart; entry = replyOf }
+
+refute-counts : Refuted counts
+unfolding computed allows
+refute-counts =
+    refuted counts two fresh (alone ∷ alone ∷ alone ∷ alone ∷ []) refl refl (λ h. let e : _≡_ {A = ℕ} 255 8 = h .sure refl 0x1010 first-named in omega arith)
 
 -- wrong cards, with the right master
 
--- one that applies a change at its echo, and once more at the acknowledge: the customer's clauses do not catch it, since asking twice is asking once; `untouched` does
+abbrev datalinkBy : (Card → ℕ → List ℕ → Reply) → Build Phase
+datalinkBy entry = record { new = New; says = saysOf; step = stepOf; datalink = entry; restart = restart; entry = replyOf }
+
+-- one that applies a change at its echo, and once more at the acknowledge: the customer's clauses do not catch it, since to ask once more changes nothing; `untouched` does
 unfoldable eagerly : Order → Reply → Reply
 eagerly (Refused number) r = r
 eagerly (Interrogate at n) r = r
@@ -179,22 +228,36 @@ eagerly (Change kind num) r =
     choose (eqb (r .number) answered) (record { number = r .number; bytes = r .bytes; card = cardOf (r .card .words) (appliedTo (r .card .memory) (r .card .pending)) (r .card .pending) }) r
 eagerly Acknowledge r = r
 
-unfoldable eager : Card → ℕ → List ℕ → Reply
-eager card room f = eagerly (asked (iaOf card) f) (datalinkReply card room f)
+abbrev eager : Build Phase
+eager = datalinkBy (λ card room f. eagerly (asked (iaOf card) f) (datalinkReply card room f))
 
-refute-eager : Refuted (record { step = stepOf; datalink = eager; restart = restart; entry = replyOf })
-unfolding computed allows eagerly eager
+refute-eager : Refuted eager
+unfolding computed allows eagerly
 refute-eager =
-    let b : Build = record { step = stepOf; datalink = eager; restart = restart; entry = replyOf } in
-    let calls : List Call = alone ∷ arrives ∷ [] in
-    record {
-      request = two;
-      accepted = refl;
-      start = fresh;
-      calls = calls;
-      worded = allowed b two (begin fresh) calls refl;
-      broken = λ h. let e : _≡_ {A = ℕ} 8 255 = h .untouched (lit≤ tt) 0x1010 (record { low = lit≤ tt; high = lit< tt }) in omega arith;
-    }
+    refuted eager two fresh (alone ∷ arrives ∷ []) refl refl (λ h. let e : _≡_ {A = ℕ} 8 255 = h .untouched (lit≤ tt) 0x1010 (record { low = lit≤ tt; high = lit< tt }) in omega arith)
+
+-- one whose acknowledge leaves the byte 1011h as it was
+unfoldable halved : Card → Order → Reply → Reply
+halved card (Refused number) r = r
+halved card (Interrogate at n) r = r
+halved card (Change kind num) r = r
+halved card Acknowledge r =
+    record { number = r .number; bytes = r .bytes; card = cardOf (r .card .words) (set (r .card .memory) 0x11 (getD (card .memory) 0x11 0)) (r .card .pending) }
+
+abbrev half : Build Phase
+half = datalinkBy (λ card room f. halved card (asked (iaOf card) f) (datalinkReply card room f))
+
+second-named : Named two 0x1011
+second-named = record { low = lit≤ tt; high = lit< tt }
+
+refute-half : Refuted half
+unfolding computed allows halved
+refute-half =
+    refuted half two fresh (alone ∷ arrives ∷ hears ∷ arrives ∷ []) refl refl
+    (λ h. ⊎-elim
+    (λ old. let e : _≡_ {A = ℕ} 8 255 = old 0x1010 (record { low = lit≤ tt; high = lit< tt }) first-named in omega arith)
+    (λ asked. let e : _≡_ {A = ℕ} 255 12 = asked 0x1011 (record { low = lit≤ tt; high = lit< tt }) second-named in omega arith)
+    (h .whole))
 
 -- one whose set code takes any channel
 unfoldable anyChannel : Card → Entry → Reply
@@ -206,16 +269,10 @@ anyChannel card (Lucid room f) = replyOf card (Lucid room f)
 anyChannel card (WriteImage room) = replyOf card (WriteImage room)
 anyChannel card (ReadImage img) = replyOf card (ReadImage img)
 
-refute-any-channel : Refuted (record { step = stepOf; datalink = datalinkReply; restart = restart; entry = anyChannel })
+abbrev unbounded : Build Phase
+unbounded = record { new = New; says = saysOf; step = stepOf; datalink = datalinkReply; restart = restart; entry = anyChannel }
+
+refute-any-channel : Refuted unbounded
 unfolding computed allows anyChannel
 refute-any-channel =
-    let b : Build = record { step = stepOf; datalink = datalinkReply; restart = restart; entry = anyChannel } in
-    let calls : List Call = Other (SetCode 0x20 7) ∷ [] in
-    record {
-      request = two;
-      accepted = refl;
-      start = fresh;
-      calls = calls;
-      worded = allowed b two (begin fresh) calls refl;
-      broken = λ h. let e : _≡_ {A = ℕ} 7 255 = h .others 0x1020 free not-named in omega arith;
-    }
+    refuted unbounded two fresh (Other (SetCode 0x20 7) ∷ []) refl refl (λ h. let e : _≡_ {A = ℕ} 7 255 = h .others 0x1020 free not-named in omega arith)

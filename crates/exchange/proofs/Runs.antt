@@ -17,6 +17,7 @@ use Rattle.master.specs.Request.{Request, askable}
 use Rattle.master.specs.Request.Ask.{bytes, bits}
 use Rattle.master.specs.Frames.{changeFrame, acknowledgeFrame}
 use Rattle.master.specs.Step.{saysOf}
+use Rattle.master.specs.declared.Phase.{Phase}
 use Rattle.master.specs.declared.Verdict.{Verdict}
 use Rattle.master.specs.declared.Verdict.the-variants.{Open, Done, Unknown}
 use Rattle.exchange.specs.Calls.{Call, replyOf}
@@ -25,18 +26,14 @@ use Rattle.exchange.specs.Calls.Call.{Step, Arrival, Restart, Datalink, 
 use Rattle.exchange.specs.Calls.Entry.{SetCode, ReadImage}
 use Rattle.exchange.specs.Line.{World, begin, asWritten, called, run}
 use Rattle.exchange.specs.Demand.{byteAt}
-use Rattle.exchange.proofs.Computed.{computed, allows, fresh, stale, cardWith, two, hears, alone, arrives}
+use Rattle.exchange.proofs.Computed.{computed, allows, fresh, stale, cardWith, two, hears, alone, arrives, whole}
 
 -- after these calls, which the premise allows, the master says this and the byte at an address is this
 pub record Runs (q : Request) (start : Card) (calls : List Call) (says : Verdict) (address byte : ℕ) : Type 0 where
   pub asked : askable q ≡ true
-  pub allowed : allows asWritten q (begin start) calls ≡ true
-  pub said : saysOf (run asWritten q (begin start) calls .phase) ≡ says
-  pub held : byteAt (run asWritten q (begin start) calls .card) address ≡ byte
-
--- three rounds without loss
-abbrev whole : List Call
-whole = alone ∷ arrives ∷ hears ∷ arrives ∷ alone ∷ arrives ∷ hears ∷ []
+  pub allowed : allows asWritten q (begin asWritten start) calls ≡ true
+  pub said : saysOf (run asWritten q (begin asWritten start) calls .state) ≡ says
+  pub held : byteAt (run asWritten q (begin asWritten start) calls .card) address ≡ byte
 
 -- done: bytes
 
@@ -79,7 +76,7 @@ restart-harmless : Runs two fresh (alone ∷ arrives ∷ Restart ∷ arrives ∷
 unfolding computed allows
 restart-harmless = record { asked = refl; allowed = refl; said = refl; held = refl }
 
--- the acknowledge was lost, but the bytes were as asked: asking twice is asking once
+-- the acknowledge was lost, but the bytes were as asked before
 already-so : Runs (record { ia = 3; address = 0x1010; ask = bytes (255 ∷ []) }) fresh (alone ∷ arrives ∷ hears ∷ alone ∷ arrives ∷ hears ∷ []) Done 0x1010 255
 unfolding computed allows
 already-so = record { asked = refl; allowed = refl; said = refl; held = refl }
@@ -129,9 +126,9 @@ abbrev imageRead : ℕ → Call
 imageRead ia = Other (ReadImage (imageOf (cardOfIa ia .words)))
 
 -- the world after such a call
-abbrev regained : ℕ → World → World
+abbrev regained : ℕ → World Phase → World Phase
 regained ia w =
-    record { card = cardOf (replaced savedForm (w .card .words) (values savedForm (cardOfIa ia .words))) (w .card .memory) (w .card .pending); phase = w .phase; line = w .line }
+    record { card = cardOf (replaced savedForm (w .card .words) (values savedForm (cardOfIa ia .words))) (w .card .memory) (w .card .pending); state = w .state; line = w .line }
 
 abbrev wordMost : ℕ
 wordMost = wordValues - 1
@@ -143,30 +140,30 @@ words-below [] e k = omega arith
 words-below (x ∷ ws) e zero = omega (arith, span-most wordMost x refl (and-true (inSpan 0 wordMost x) (allIn 0 wordMost ws) e .0))
 words-below (x ∷ ws) e (suc k) = words-below ws (and-true (inSpan 0 wordMost x) (allIn 0 wordMost ws) e .1) k
 
-image-call : (ia : ℕ) (w : World) → fit (cardOfIa ia) ≡ true → allIn 0 wordMost (cardOfIa ia .words) ≡ true → fit (w .card) ≡ true → called asWritten two w (imageRead ia) ≡ regained ia w
+image-call : (ia : ℕ) (w : World Phase) → fit (cardOfIa ia) ≡ true → allIn 0 wordMost (cardOfIa ia .words) ≡ true → fit (w .card) ≡ true → called asWritten two w (imageRead ia) ≡ regained ia w
 unfolding called replyOf restored
 image-call ia w f s h =
     let words = words-below (cardOfIa ia .words) s in
-    ap (λ r. record { card = r .card; phase = w .phase; line = w .line }) (read-written (cardOfIa ia) (w .card) f words h .read)
-    ∙ ap (λ vs. record { card = cardOf (replaced savedForm (w .card .words) vs) (w .card .memory) (w .card .pending); phase = w .phase; line = w .line }) (entriesOf-imageOf (cardOfIa ia) f words)
+    ap (λ r. record { card = r .card; state = w .state; line = w .line }) (read-written (cardOfIa ia) (w .card) f words h .read)
+    ∙ ap (λ vs. record { card = cardOf (replaced savedForm (w .card .words) vs) (w .card .memory) (w .card .pending); state = w .state; line = w .line }) (entriesOf-imageOf (cardOfIa ia) f words)
 
 -- the worlds before, between and after the two
-abbrev next : World → Call → World
+abbrev next : World Phase → Call → World Phase
 next w c = called asWritten two w c
 
-abbrev echoHeard : World
-echoHeard = next (next (next (begin fresh) alone) arrives) hears
+abbrev echoHeard : World Phase
+echoHeard = next (next (next (begin asWritten fresh) alone) arrives) hears
 
-abbrev toTheEnd : World → World
+abbrev toTheEnd : World Phase → World Phase
 toTheEnd w = next (next (next (next w arrives) alone) arrives) hears
 
-abbrev foreign : World
+abbrev foreign : World Phase
 foreign = next (regained 4 echoHeard) arrives
 
 abbrev imagesRead : List Call
 imagesRead = alone ∷ arrives ∷ hears ∷ imageRead 4 ∷ arrives ∷ imageRead 3 ∷ arrives ∷ alone ∷ arrives ∷ hears ∷ []
 
-images-run : run asWritten two (begin fresh) imagesRead ≡ toTheEnd (next (next (next echoHeard (imageRead 4)) arrives) (imageRead 3))
+images-run : run asWritten two (begin asWritten fresh) imagesRead ≡ toTheEnd (next (next (next echoHeard (imageRead 4)) arrives) (imageRead 3))
 unfolding run
 images-run = refl
 
@@ -178,10 +175,10 @@ second-image : next foreign (imageRead 3) ≡ regained 3 foreign
 unfolding computed fieldOf wordOf values replaced entries savedForm
 second-image = image-call 3 foreign refl refl refl
 
-images-read : run asWritten two (begin fresh) imagesRead ≡ toTheEnd (regained 3 foreign)
+images-read : run asWritten two (begin asWritten fresh) imagesRead ≡ toTheEnd (regained 3 foreign)
 images-read = images-run ∙ (ap (λ w. toTheEnd (next (next w arrives) (imageRead 3))) first-image ∙ ap toTheEnd second-image)
 
-images-allowed : allows asWritten two (begin fresh) imagesRead ≡ true
+images-allowed : allows asWritten two (begin asWritten fresh) imagesRead ≡ true
 unfolding computed allows
 images-allowed = refl
 
@@ -191,6 +188,6 @@ image-between =
     record {
       asked = refl;
       allowed = images-allowed;
-      said = ap (λ w. saysOf (w .phase)) images-read;
+      said = ap (λ w. saysOf (w .state)) images-read;
       held = ap (λ w. byteAt (w .card) 0x1010) images-read;
     }

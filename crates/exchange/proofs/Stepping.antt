@@ -14,10 +14,11 @@ use Rattle.card.specs.Numbers.{valueOutside, bufferShort}
 use Rattle.card.specs.Layout.{Card}
 use Rattle.card.specs.Tables.{memoryStart}
 use Rattle.card.proofs.Facts.{and-true}
-use Rattle.datalink.specs.Frame.{framed, longest}
+use Rattle.datalink.specs.Frame.{framed, longest, isAcknowledge}
 use Rattle.datalink.specs.Answer.{response}
 use Rattle.master.specs.Request.{Request, namedBy, asAsked, askable}
-use Rattle.master.specs.Frames.{body, acknowledgeFrame, echo, isEcho, shownIn, isResponse, allAsked, confirms}
+use Rattle.master.specs.Accepted.{Accepted}
+use Rattle.master.specs.Frames.{body, changeFrame, acknowledgeFrame, interrogateFrame, echo, isEcho, shownIn, isResponse, allAsked, confirms}
 use Rattle.master.specs.Step.{Move, sends, ends, refuses, move, stepOf}
 use Rattle.master.specs.declared.Phase.{Phase}
 use Rattle.master.specs.declared.Phase.the-variants.{New, Changing, Acknowledging, Reading, EndedDone, EndedUnknown}
@@ -29,6 +30,7 @@ use Rattle.exchange.specs.Calls.{Choice}
 use Rattle.exchange.specs.Calls.Choice.{none, answer}
 use Rattle.exchange.specs.Line.{Line, nth, heard, isAnswer, lossless, closing, afterStep, changeRound, acknowledgeRound, interrogateRound}
 use Rattle.exchange.specs.Demand.{allLossless, due}
+use Rattle.exchange.proofs.Orders.{change-awaits, interrogate-awaits}
 use Rattle.exchange.proofs.Memory.{Range, AskedOf}
 use Rattle.exchange.proofs.Invariant.{Every, EchoHeard, Shows, Stand, AtChanging, AtReading, AllNamed, Settled, InvAt, named-high}
 
@@ -62,11 +64,11 @@ unfolding closing choose
 closing-none line got f e = rw (f, e)
 
 -- a round whose closing step gets no answer is not lossless
-unheard : {A : Type 0} (line : Line) (got : List ℕ) (n : ℕ) (rounds : List Bool) → line .frames ≡ n → eqb n acknowledgeRound ≡ false → got ≡ [] → allLossless (lossless line got ∷ rounds) ≡ true → A
-unheard line got n rounds f other e all =
-    let lost : (eqb (line .frames) acknowledgeRound || isAnswer got) ≡ false = rw (f, other, e) in
+unheard : {A : Type 0} (line : Line) (got : List ℕ) (rounds : List Bool) (f : List ℕ) → line .frame ≡ f → isAcknowledge f ≡ false → got ≡ [] → allLossless (lossless line got ∷ rounds) ≡ true → A
+unheard line got rounds f sent other e all =
+    let lost : (isAcknowledge (line .frame) || isAnswer got) ≡ false = rw (sent, other, e) in
     let one = and-true (lossless line got) (allLossless rounds) all .0 in
-    never (sym lost ∙ and-true (line .reached) (eqb (line .frames) acknowledgeRound || isAnswer got) one .1)
+    never (sym lost ∙ and-true (line .reached) (isAcknowledge (line .frame) || isAnswer got) one .1)
 
 no-echo : (q : Request) (got : List ℕ) → got ≡ [] → isEcho q got ≡ false
 unfolding isEcho echo response framed same
@@ -114,7 +116,7 @@ module _ (q : Request) (start card : Card) where
       record { range = r; asked = λ i h. sym (g i h) ∙ ap (λ (x : ℕ). asAsked (q .ask) x i) (b .old .at (q .address - memoryStart + i) (named-high q r i h)) }
   confirm r (inr f) g = record { range = r; asked = f .asked .asked }
 
-  module _ (line : Line) (got : List ℕ) where
+  module _ (a : Accepted q) (line : Line) (got : List ℕ) where
     -- what is known of what a step got
     abbrev Is : Phase → Type 0
     Is New = Unit {0}
@@ -125,8 +127,8 @@ module _ (q : Request) (start card : Card) where
     Is EndedUnknown = Unit {0}
 
     -- the invariant after a move
-    abbrev Moved : Move → Type 0
-    Moved m = InvAt q start (m .phase) card (afterStep line got m)
+    abbrev Moved : Move Phase → Type 0
+    Moved m = InvAt q start (m .state) card (afterStep line got m)
 
     by-echo : (t : Bool) → isEcho q got ≡ t → Got (EchoHeard q card) got → AtChanging q start card line → Moved (choose t (sends (acknowledgeFrame q) Acknowledging) (ends EndedUnknown))
     unfolding afterStep choose isEcho
@@ -146,7 +148,7 @@ module _ (q : Request) (start card : Card) where
           settled = inl (v .old);
           frame = refl;
           sure = λ u. not-done u;
-          rounds = λ g. unheard line got changeRound [] (v .frames) refl n (ap allLossless (sym (closing-at line got changeRound [] (v .frames) (v .closed) refl)) ∙ g);
+          rounds = λ g. unheard line got [] (changeFrame q) (v .frame) (change-awaits q a) n (ap allLossless (sym (closing-at line got changeRound [] (v .frames) (v .closed) refl)) ∙ g);
           early = λ _. v .old;
         }
     by-echo false e (inr h) v = never (sym e ∙ ap (λ (x : List ℕ). same x (echo q)) (h .exact) ∙ same-self (echo q))
@@ -173,7 +175,7 @@ module _ (q : Request) (start card : Card) where
         }
       where
         lost : Got (Shows q card) got → allLossless (lossless line got ∷ v .two ∷ v .one ∷ []) ≡ true → Unknown ≡ due (closing line got)
-        lost (inl n) g = unheard line got interrogateRound (v .two ∷ v .one ∷ []) (v .frames) refl n g
+        lost (inl n) g = unheard line got (v .two ∷ v .one ∷ []) (interrogateFrame q) (v .frame) (interrogate-awaits q a) n g
         lost (inr s) g =
             let rest = and-true (lossless line got) (allLossless (v .two ∷ v .one ∷ [])) g .1 in
             let f = v .carried (and-true (v .two) (allLossless (v .one ∷ [])) rest .0) in
@@ -192,27 +194,27 @@ module _ (q : Request) (start card : Card) where
           one = v .one;
           two = lossless line got;
           closed = closing-at line got acknowledgeRound (v .one ∷ []) (v .frames) (v .closed) refl;
-          carried = λ u. v .carried (and-true (line .reached) (eqb (line .frames) acknowledgeRound || isAnswer got) u .0);
+          carried = λ u. v .carried (and-true (line .reached) (isAcknowledge (line .frame) || isAnswer got) u .0);
           heard = tt;
         }
     moving Reading i v = by-read-back (confirms q got) refl i v
     moving EndedDone i v = v
     moving EndedUnknown i v = v
 
-  is-heard : (line : Line) (choice : Choice) (phase : Phase) → InvAt q start phase card line → Is line (heard line choice) phase
-  is-heard line choice New v = tt
-  is-heard line choice Changing v = heard-got (EchoHeard q card) line choice (v .heard)
-  is-heard line choice Acknowledging v = tt
-  is-heard line choice Reading v = heard-got (Shows q card) line choice (v .heard)
-  is-heard line choice EndedDone v = tt
-  is-heard line choice EndedUnknown v = tt
+  is-heard : (a : Accepted q) (line : Line) (choice : Choice) (phase : Phase) → InvAt q start phase card line → Is a line (heard line choice) phase
+  is-heard a line choice New v = tt
+  is-heard a line choice Changing v = heard-got (EchoHeard q card) line choice (v .heard)
+  is-heard a line choice Acknowledging v = tt
+  is-heard a line choice Reading v = heard-got (Shows q card) line choice (v .heard)
+  is-heard a line choice EndedDone v = tt
+  is-heard a line choice EndedUnknown v = tt
 
   -- a refused step leaves phase and line; any other is the phase's move
-  pub stepping : (line : Line) (choice : Choice) (phase : Phase) (room : ℕ) → InvAt q start phase card line → Moved line (heard line choice) (stepOf q phase (heard line choice) room)
+  pub stepping : (a : Accepted q) (line : Line) (choice : Choice) (phase : Phase) (room : ℕ) → InvAt q start phase card line → Moved a line (heard line choice) (stepOf q phase (heard line choice) room)
   unfolding stepOf afterStep choose
-  stepping line choice phase room v = by (askable q) (leb longest room)
+  stepping a line choice phase room v = by (askable q) (leb longest room)
     where
-      by : (s t : Bool) → Moved line (heard line choice) (choose s (choose t (move q phase (heard line choice)) (refuses bufferShort phase)) (refuses valueOutside phase))
-      by true true = moving line (heard line choice) phase (is-heard line choice phase v) v
+      by : (s t : Bool) → Moved a line (heard line choice) (choose s (choose t (move q phase (heard line choice)) (refuses bufferShort phase)) (refuses valueOutside phase))
+      by true true = moving a line (heard line choice) phase (is-heard a line choice phase v) v
       by true false = v
       by false t = v

@@ -2,3 +2,4 @@ pub mod Calls
 pub mod Line
 pub mod Premise
 pub mod Demand
+pub mod InC

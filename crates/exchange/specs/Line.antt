@@ -8,11 +8,14 @@ use lib.ListN.{length}
 use Rattle.wire.specs.Choose.{choose}
 use Rattle.card.specs.Numbers.{answered, foreignAddress}
 use Rattle.card.specs.Layout.{Card}
+use Rattle.card.specs.Tables.{noChange}
 use Rattle.card.specs.Entries.{restart}
 use Rattle.card.specs.Reply.{Reply}
+use Rattle.datalink.specs.Frame.{kindIn, isAcknowledge}
 use Rattle.datalink.specs.Answer.{datalinkReply}
 use Rattle.master.specs.Request.{Request}
-use Rattle.master.specs.Step.{Move, stepOf}
+use Rattle.master.specs.Step.{Move, saysOf, stepOf}
+use Rattle.master.specs.declared.Verdict.{Verdict}
 use Rattle.master.specs.declared.Phase.{Phase}
 use Rattle.master.specs.declared.Phase.the-variants.{New}
 use Rattle.exchange.specs.Calls.{Choice, Entry, Call, replyOf}
@@ -38,6 +41,9 @@ pub record Line : Type 0 where
   pub reached : Bool
   -- for each round that was closed, the last first: whether it was lossless
   pub closed : List Bool
+  -- a change has arrived, in this round or an earlier one; so has an acknowledge
+  pub changed : Bool
+  pub acknowledged : Bool
   -- a restart fell between the first arrivals of change and acknowledge
   pub between : Bool
 
@@ -65,16 +71,21 @@ abbrev pub isAnswer : List ℕ → Bool
 isAnswer [] = false
 isAnswer (b ∷ bytes) = true
 
--- "A round is lossless if its frame arrives, the first arrival is not refused and, but for acknowledge, its closing step gets an answer"
+-- a frame that is a Change or a Change Bits
+abbrev pub isChange : List ℕ → Bool
+isChange f = not (eqb (kindIn f) noChange)
+
+-- "A round is lossless if its frame arrives, the first arrival is not refused and, but for acknowledge, its closing step gets an answer":
+-- the acknowledge's round is known by its frame
 abbrev pub lossless : Line → List ℕ → Bool
-lossless line got = line .reached && (eqb (line .frames) acknowledgeRound || isAnswer got)
+lossless line got = line .reached && (isAcknowledge (line .frame) || isAnswer got)
 
 -- the rounds closed by a step that is not refused: "each later such step closes the round of the frame last sent"
 unfoldable pub closing : Line → List ℕ → List Bool
 closing line got = choose (ltb (length (line .closed)) (line .frames)) (lossless line got ∷ line .closed) (line .closed)
 
 -- the line after a step; a refused one closes no round
-unfoldable pub afterStep : Line → List ℕ → Move → Line
+unfoldable pub afterStep : {State : Type 0} → Line → List ℕ → Move State → Line
 afterStep line got m =
     choose (refused (m .number))
     line
@@ -85,6 +96,8 @@ afterStep line got m =
       arrivals = 0;
       reached = false;
       closed = closing line got;
+      changed = line .changed;
+      acknowledged = line .acknowledged;
       between = line .between;
     })
 
@@ -98,12 +111,10 @@ afterArrival line r =
       arrivals = suc (line .arrivals);
       reached = choose (eqb (line .arrivals) 0) (not (refused (r .number))) (line .reached);
       closed = line .closed;
+      changed = line .changed || isChange (line .frame);
+      acknowledged = line .acknowledged || isAcknowledge (line .frame);
       between = line .between;
     }
-
--- the change has arrived, and the acknowledge has not
-abbrev pub halfway : Line → Bool
-halfway line = (eqb (line .frames) changeRound && ltb 0 (line .arrivals)) || (eqb (line .frames) acknowledgeRound && eqb (line .arrivals) 0)
 
 unfoldable pub afterRestart : Line → Line
 afterRestart line =
@@ -114,49 +125,54 @@ afterRestart line =
       arrivals = line .arrivals;
       reached = line .reached;
       closed = line .closed;
-      between = line .between || halfway line;
+      changed = line .changed;
+      acknowledged = line .acknowledged;
+      between = line .between || (line .changed && not (line .acknowledged));
     }
 
--- the card's tables, the master's state and the line
-pub record World : Type 0 where
-  pub card : Card
-  pub phase : Phase
-  pub line : Line
-
--- "The list starts from a new master .. and any tables, fit or not"
-abbrev pub begin : Card → World
-begin card =
-    record {
-      card = card;
-      phase = New;
-      line = record { frame = []; frames = 0; answers = []; arrivals = 0; reached = false; closed = []; between = false };
-    }
-
--- a master's step and a card's entries, so that wrong ones can be put to the claim
-pub record Build : Type 0 where
-  pub step : Request → Phase → List ℕ → ℕ → Move
+-- A master and a card, so that wrong ones can be put to the claim. The master has a state of any type: a new one's, what the master says
+-- in each, and its step
+pub record Build (State : Type 0) : Type 0 where
+  pub new : State
+  pub says : State → Verdict
+  pub step : Request → State → List ℕ → ℕ → Move State
   pub datalink : Card → ℕ → List ℕ → Reply
   pub restart : Card → Reply
   pub entry : Card → Entry → Reply
 
 -- the written meanings, which the entries' contracts equate with the code
-abbrev pub asWritten : Build
-asWritten = record { step = stepOf; datalink = datalinkReply; restart = restart; entry = replyOf }
+abbrev pub asWritten : Build Phase
+asWritten = record { new = New; says = saysOf; step = stepOf; datalink = datalinkReply; restart = restart; entry = replyOf }
+
+-- the card's tables, the master's state and the line
+pub record World (State : Type 0) : Type 0 where
+  pub card : Card
+  pub state : State
+  pub line : Line
+
+-- "The list starts from a new master .. and any tables, fit or not"
+abbrev pub begin : {State : Type 0} → Build State → Card → World State
+begin b card =
+    record {
+      card = card;
+      state = b .new;
+      line = record { frame = []; frames = 0; answers = []; arrivals = 0; reached = false; closed = []; changed = false; acknowledged = false; between = false };
+    }
 
 -- "Each step gets that request and the master's state as the last step returned it, each call of the card the tables as the last one left them"
-unfoldable pub called : Build → Request → World → Call → World
+unfoldable pub called : {State : Type 0} → Build State → Request → World State → Call → World State
 called b q w (Step choice room) =
     let got = heard (w .line) choice in
-    let m = b .step q (w .phase) got room in
-    record { card = w .card; phase = m .phase; line = afterStep (w .line) got m }
+    let m = b .step q (w .state) got room in
+    record { card = w .card; state = m .state; line = afterStep (w .line) got m }
 called b q w (Arrival room) =
     let r = b .datalink (w .card) room (w .line .frame) in
-    record { card = r .card; phase = w .phase; line = afterArrival (w .line) r }
-called b q w Restart = record { card = b .restart (w .card) .card; phase = w .phase; line = afterRestart (w .line) }
-called b q w (Datalink room f) = record { card = b .datalink (w .card) room f .card; phase = w .phase; line = w .line }
-called b q w (Other e) = record { card = b .entry (w .card) e .card; phase = w .phase; line = w .line }
+    record { card = r .card; state = w .state; line = afterArrival (w .line) r }
+called b q w Restart = record { card = b .restart (w .card) .card; state = w .state; line = afterRestart (w .line) }
+called b q w (Datalink room f) = record { card = b .datalink (w .card) room f .card; state = w .state; line = w .line }
+called b q w (Other e) = record { card = b .entry (w .card) e .card; state = w .state; line = w .line }
 
 -- what a list of calls makes of a world
-unfoldable pub run : Build → Request → World → List Call → World
+unfoldable pub run : {State : Type 0} → Build State → Request → World State → List Call → World State
 run b q w [] = w
 run b q w (c ∷ calls) = run b q (called b q w c) calls

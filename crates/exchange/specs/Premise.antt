@@ -21,7 +21,7 @@ writes (Change kind num) = true
 writes Acknowledge = true
 
 -- another Datalink frame that is a change or an acknowledge is refused; nothing is asked of any other call
-abbrev pub Quiet : Build → World → Call → Type 0
+abbrev pub Quiet : {State : Type 0} → Build State → World State → Call → Type 0
 Quiet b w (Step choice room) = Unit {0}
 Quiet b w (Arrival room) = Unit {0}
 Quiet b w Restart = Unit {0}
@@ -29,12 +29,12 @@ Quiet b w (Datalink room f) = writes (asked (iaOf (w .card)) f) ≡ true → ref
 Quiet b w (Other e) = Unit {0}
 
 -- the same throughout the list
-unfoldable pub AllQuiet : Build → Request → World → List Call → Type 0
+unfoldable pub AllQuiet : {State : Type 0} → Build State → Request → World State → List Call → Type 0
 AllQuiet b q w [] = Unit {0}
 AllQuiet b q w (c ∷ calls) = Quiet b w c × AllQuiet b q (called b q w c) calls
 
 -- "In its round a frame arrives zero, one or two times; any further arrival is another frame": an arrival comes after at most one
-abbrev pub AtMostTwice : World → Call → Type 0
+abbrev pub AtMostTwice : {State : Type 0} → World State → Call → Type 0
 AtMostTwice w (Step choice room) = Unit {0}
 AtMostTwice w (Arrival room) = w .line .arrivals ≤ 1
 AtMostTwice w Restart = Unit {0}
@@ -42,6 +42,6 @@ AtMostTwice w (Datalink room f) = Unit {0}
 AtMostTwice w (Other e) = Unit {0}
 
 -- the premise word for word
-unfoldable pub AsWorded : Build → Request → World → List Call → Type 0
+unfoldable pub AsWorded : {State : Type 0} → Build State → Request → World State → List Call → Type 0
 AsWorded b q w [] = Unit {0}
 AsWorded b q w (c ∷ calls) = (AtMostTwice w c × Quiet b w c) × AsWorded b q (called b q w c) calls

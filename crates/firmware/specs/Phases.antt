@@ -1,14 +1,14 @@
 -- The line master's phase and a request's kind as numbers, for C: every number means a phase and a kind.
 use Prim.Native.Nat.{ℕ}
-use mathlib.Core.Path.{_≡_}
 use mathlib.Core.List.{List}
-use lib.Dec.{eqb}
-use lib.ListN.{length}
+use lib.Dec.{eqb, ltb}
 use Rattle.wire.specs.Choose.{choose}
-use Rattle.wire.specs.Buffer.{overlay}
-use Rattle.master.specs.Step.{Move}
+use Rattle.master.specs.Request.{Request}
+use Rattle.master.specs.Step.{Move, stepOf}
 use Rattle.master.specs.declared.Phase.{Phase}
 use Rattle.master.specs.declared.Phase.the-variants.{New, Changing, Acknowledging, Reading, EndedDone, EndedUnknown}
+use Rattle.master.specs.declared.Verdict.{Verdict}
+use Rattle.master.specs.declared.Verdict.the-variants.{Open, Done, Unknown}
 use Rattle.master.specs.declared.request.Kind.{Kind}
 use Rattle.master.specs.declared.request.Kind.the-variants.{Bytes, Bits}
 
@@ -31,13 +31,24 @@ phaseOf code =
     (choose (eqb code (codeOf EndedDone)) EndedDone
     EndedUnknown))))
 
--- 0 asks for bytes, any other number for bits
-unfoldable pub kindOf : ℕ → Kind
-kindOf code = choose (eqb code 0) Bytes Bits
+-- what include/nakshvilor.h says of a phase's number: NK_ENDED_DONE is done, a smaller one nothing yet, any other unknown
+abbrev pub endedDoneInC : ℕ
+endedDoneInC = 4
 
--- a step gave this move: the number, the frame's length, the number of the phase and the whole frame buffer
-pub record SteppedTo (m : Move) (frame : List ℕ) (number len phase : ℕ) (frame′ : List ℕ) : Type 0 where
-  pub numbered : number ≡ m .number
-  pub measured : len ≡ length (m .bytes)
-  pub moved : phase ≡ codeOf (m .phase)
-  pub written : frame′ ≡ overlay (m .bytes) frame
+unfoldable pub saysInC : ℕ → Verdict
+saysInC code = choose (ltb code endedDoneInC) Open (choose (eqb code endedDoneInC) Done Unknown)
+
+-- the number of a kind
+abbrev pub kindCodeOf : Kind → ℕ
+kindCodeOf Bytes = 0
+kindCodeOf Bits = 1
+
+-- the kind of a number: 0 asks for bytes, any other number for bits
+unfoldable pub kindOf : ℕ → Kind
+kindOf code = choose (eqb code (kindCodeOf Bytes)) Bytes Bits
+
+-- the step as C sees it: the master's state is the number of its phase
+unfoldable pub stepInC : Request → ℕ → List ℕ → ℕ → Move ℕ
+stepInC q code heard room =
+    let m = stepOf q (phaseOf code) heard room in
+    record { number = m .number; bytes = m .bytes; state = codeOf (m .state) }

@@ -17,9 +17,9 @@ ghost use Rattle.love.specs.Answer.{loveReply};
 ghost use Rattle.lucid.specs.Answer.{lucidReply};
 ghost use Rattle.image.specs.Entries.{writeImage, readImage};
 ghost use Rattle.master.specs.Request.{requestOf};
-ghost use Rattle.master.specs.Step.{stepOf};
+ghost use Rattle.master.specs.Step.{Stepped};
 ghost use Rattle.firmware.specs.Lent.{Handed, degreesIn};
-ghost use Rattle.firmware.specs.Phases.{codeOf, phaseOf, kindOf, SteppedTo};
+ghost use Rattle.firmware.specs.Phases.{codeOf, phaseOf, kindOf, stepInC};
 
 #[no_mangle]
 pub extern "C" fn nk_set_code(
@@ -235,7 +235,7 @@ pub extern "C" fn nk_step(
     frame: &mut [u8],
     len: &mut usize,
 ) -> u8
-    ensures { λ r. ⌜ SteppedTo (stepOf (requestOf (kindOf kind) ia address (now (sent .entry)) (now (states .entry))) (phaseOf (now (phase .entry))) (now (answer .entry)) (length (now (frame .entry)))) (now (frame .entry)) r (now (len .exit)) (now (phase .exit)) (now (frame .exit)) ⌝ }
+    ensures { λ r. ⌜ Stepped (stepInC (requestOf (kindOf kind) ia address (now (sent .entry)) (now (states .entry))) (now (phase .entry)) (now (answer .entry)) (length (now (frame .entry)))) (now (frame .entry)) r (now (len .exit)) (now (phase .exit)) (now (frame .exit)) ⌝ }
 {
     let went = master::step(
         phase_of(*phase),

@@ -21,7 +21,7 @@ unfoldable all : Unit {0}
 unfolding choose total sumOf framed response askable asAsked changeFrame acknowledgeFrame interrogateFrame same echo isEcho isResponse allAsked confirms move stepOf
 all = tt
 
-abbrev step : Ask → Phase → List ℕ → Move
+abbrev step : Ask → Phase → List ℕ → Move Phase
 step a phase heard = stepOf (record { ia = 3; address = 0x1010; ask = a }) phase heard 38
 
 abbrev two : Ask

@@ -24,27 +24,27 @@ saysOf Reading = Open
 saysOf EndedDone = Done
 saysOf EndedUnknown = Unknown
 
--- what a step gives: its number, the bytes of the frame that it sends, and the phase that it leaves
-pub record Move : Type 0 where
+-- what a step gives: its number, the bytes of the frame that it sends, and the state that it leaves. The master's own state is a phase
+pub record Move (State : Type 0) : Type 0 where
   pub number : ℕ
   pub bytes : List ℕ
-  pub phase : Phase
+  pub state : State
 
 -- a frame is sent: 0
-abbrev pub sends : List ℕ → Phase → Move
-sends frame phase = record { number = answered; bytes = frame; phase = phase }
+abbrev pub sends : {State : Type 0} → List ℕ → State → Move State
+sends frame state = record { number = answered; bytes = frame; state = state }
 
 -- the exchange ends with no frame: 1
-abbrev pub ends : Phase → Move
-ends phase = record { number = done; bytes = []; phase = phase }
+abbrev pub ends : {State : Type 0} → State → Move State
+ends state = record { number = done; bytes = []; state = state }
 
 -- "It refuses, sending nothing and moving no step"
-abbrev pub refuses : ℕ → Phase → Move
-refuses number phase = record { number = number; bytes = []; phase = phase }
+abbrev pub refuses : {State : Type 0} → ℕ → State → Move State
+refuses number state = record { number = number; bytes = []; state = state }
 
 -- the move in each phase, by the answer heard, [] for none: "It acknowledges only on an exact echo and says done only if the read-back has every byte, or every forced bit, as asked.
 -- Otherwise unknown; without an exact echo the exchange ends there." After the acknowledge it reads back, whatever it heard. "10 exactly if a step is asked after the end"
-unfoldable pub move : Request → Phase → List ℕ → Move
+unfoldable pub move : Request → Phase → List ℕ → Move Phase
 move q New heard = sends (changeFrame q) Changing
 move q Changing heard = choose (isEcho q heard) (sends (acknowledgeFrame q) Acknowledging) (ends EndedUnknown)
 move q Acknowledging heard = sends (interrogateFrame q) Reading
@@ -53,13 +53,13 @@ move q EndedDone heard = refuses nothingPending EndedDone
 move q EndedUnknown heard = refuses nothingPending EndedUnknown
 
 -- the step: 7, "then with 11 exactly if its frame buffer is below 38; then with 10"
-unfoldable pub stepOf : Request → Phase → List ℕ → ℕ → Move
+unfoldable pub stepOf : Request → Phase → List ℕ → ℕ → Move Phase
 stepOf q phase heard room =
     choose (askable q) (choose (leb longest room) (move q phase heard) (refuses bufferShort phase)) (refuses valueOutside phase)
 
--- a step gave this move: the number, the frame's length, the whole frame buffer and the phase
-pub record Stepped (m : Move) (frame : List ℕ) (number len : ℕ) (phase : Phase) (frame′ : List ℕ) : Type 0 where
+-- a step gave this move: the number, the frame's length, the whole frame buffer and the state
+pub record Stepped {State : Type 0} (m : Move State) (frame : List ℕ) (number len : ℕ) (state : State) (frame′ : List ℕ) : Type 0 where
   pub numbered : number ≡ m .number
   pub measured : len ≡ length (m .bytes)
   pub written : frame′ ≡ overlay (m .bytes) frame
-  pub moved : phase ≡ m .phase
+  pub moved : state ≡ m .state

@@ -1,5 +1,5 @@
 -- `firmware::nk_step` meets its contract: the step of the phase and kind that the numbers mean. Assumes nothing.
-use Rattle.firmware.specs.Phases.{codeOf}
+use Rattle.firmware.specs.Phases.{codeOf, stepInC}
 use mathlib.Core.Path.{ap, _∙_}
 use borrow.Author.Needs.{needs}
 use Rattle.firmware.proofs.nk_step.Statement.{statement}
@@ -21,6 +21,7 @@ same-length : tie.Need-same-length
 same-length c = search needs
 
 returns : tie.Need-returns
+unfolding stepInC
 returns c =
     let given = c .before .before .before .step .ensures in
     rw (← c .before .before .before .before .before .before .phase-of .ensures, ← c .before .before .before .before .before .kind-of .ensures)
