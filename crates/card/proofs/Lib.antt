@@ -1,9 +1,9 @@
 pub mod Scans
+pub mod Ranges
 pub mod Facts
 pub mod Replies
 pub mod Sweep
 pub mod Floats
 pub mod Probes
-pub mod Keeping
-pub mod Changed
-pub mod Staying
+pub mod Laws
+pub mod Fits

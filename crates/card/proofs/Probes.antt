@@ -11,7 +11,7 @@ use native.Mathlib.Omega.{arith}
 use Rattle.wire.specs.Choose.{choose}
 use Rattle.wire.specs.Word.{minus}
 use Rattle.wire.proofs.Cases.{by-choice}
-use Rattle.card.specs.Tables.{inSpan}
+use Rattle.card.specs.Fitness.{inSpan}
 use Rattle.card.specs.Probe.{faultCode, tenthsPerCode, tenthsBelow, tenthsOf, readingOf}
 use Rattle.card.specs.declared.probe.Reading.{Reading}
 use Rattle.card.specs.declared.probe.Reading.the-variants.{Temperature, Fault}

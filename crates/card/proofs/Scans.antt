@@ -1,4 +1,4 @@
--- One turn of the scans of specs/Tables.antt: what is left of a test after the next words. Assumes nothing.
+-- One turn of the scans of specs/Scans.antt: what is left of a test after the next words. Assumes nothing.
 use mathlib.Core.Path.{_≡_, refl, sym, ap, _∙_}
 use mathlib.Core.Bool.{Bool, true, false, _&&_, _||_}
 use mathlib.Core.List.{List, [], _∷_, _++_}
@@ -7,23 +7,9 @@ use native.Mathlib.Omega.{arith}
 use native.Mathlib.Numerals.{add-one, add-two}
 use lib.ListN.{length, take, drop, getD, take-append-drop}
 use lib.Seq.{drop-cons, drop-drop}
-use Rattle.card.specs.Tables.{inSpan, allIn, fitParameters, cycleLeast, cycleMost, floorMost}
-
-pub and-assoc : (a b d : Bool) → (a && (b && d)) ≡ ((a && b) && d)
-and-assoc true b d = refl
-and-assoc false b d = refl
-
-pub and-true-right : (t : Bool) → (t && true) ≡ t
-and-true-right true = refl
-and-true-right false = refl
-
-pub and-false-right : (t : Bool) → (t && false) ≡ false
-and-false-right true = refl
-and-false-right false = refl
-
-pub or-true-right : (t : Bool) → (t || true) ≡ true
-or-true-right true = refl
-or-true-right false = refl
+use Rattle.wire.proofs.Tests.{and-assoc}
+use Rattle.card.specs.Fitness.{inSpan, cycleLeast, cycleMost, floorMost}
+use Rattle.card.specs.Scans.{allIn, fitParameters}
 
 -- the test of two lists one after the other
 pub allIn-append : (lo hi : ℕ) (s t : List ℕ) → allIn lo hi (s ++ t) ≡ (allIn lo hi s && allIn lo hi t)
@@ -66,13 +52,3 @@ parameters-none [] i h = rest i
 parameters-none (x ∷ []) zero h = refl
 parameters-none (x ∷ y ∷ s) zero h = let z : ⊥ = omega arith in absurd z
 parameters-none (x ∷ s) (suc i) h = parameters-none s i (omega arith)
-
--- pairs one after the other
-pub parameters-append : (s t : List ℕ) → length s % 2 ≡ 0 → fitParameters (s ++ t) ≡ (fitParameters s && fitParameters t)
-unfolding fitParameters
-parameters-append [] t h = refl
-parameters-append (x ∷ []) t h = let z : ⊥ = omega arith in absurd z
-parameters-append (x ∷ y ∷ s) t h =
-    let cycle = inSpan cycleLeast cycleMost x in
-    let floor = inSpan 0 floorMost y in
-    rw (parameters-append s t (omega arith), and-assoc floor (fitParameters s) (fitParameters t)) (and-assoc cycle (floor && fitParameters s) (fitParameters t))

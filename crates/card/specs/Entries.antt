@@ -6,30 +6,31 @@ use lib.ListN.{replicate, set}
 use Rattle.wire.specs.Choose.{choose}
 use Rattle.wire.specs.Buffer.{put, part}
 use Rattle.card.specs.Numbers.{done, rangeUnknown}
-use Rattle.card.specs.Layout.{Card, channels, demandsAt, parametersAt, keptAt, bufferAt, operationalAt, savedAt, wordCount, kindAt}
-use Rattle.card.specs.Tables.{noChange, demandMost}
+use Rattle.card.specs.Layout.{Card, cardOf, withMemory, channels, demandsAt, parametersAt, savedParametersAt, bufferAt, operationalAt, savedRegistersAt, wordCount, kindAt}
+use Rattle.card.specs.Change.{noChange}
+use Rattle.card.specs.Fitness.{demandMost}
 use Rattle.card.specs.Probe.{faultCode}
 use Rattle.card.specs.Reply.{Reply, silent, guarded}
 
 -- the card with another code for a probe
 unfoldable pub withCode : Card → ℕ → ℕ → Card
-withCode card channel code = record { words = card .words; memory = set (card .memory) channel code; pending = card .pending }
+withCode card channel code = withMemory card (set (card .memory) channel code)
 
 -- "set a probe code (channel above 3: 6)"
 unfoldable pub setCode : Card → ℕ → ℕ → Reply
 setCode card channel code = guarded card (choose (ltb channel channels) (silent done (withCode card channel code)) (silent rangeUnknown card))
 
 -- Restart: a copy of the registers becomes the saved one
-unfoldable pub savedCopy : ℕ → List ℕ → List ℕ
-savedCopy at ws = put ws at (part ws savedAt wordCount)
+unfoldable pub registersTo : ℕ → List ℕ → List ℕ
+registersTo at ws = put ws at (part ws savedRegistersAt wordCount)
 
 -- "buffer and operational become saved"
-unfoldable pub savedRegisters : List ℕ → List ℕ
-savedRegisters ws = savedCopy operationalAt (savedCopy bufferAt ws)
+unfoldable pub restoredRegisters : List ℕ → List ℕ
+restoredRegisters ws = registersTo operationalAt (registersTo bufferAt ws)
 
 -- "parameters become their saved copy"
-unfoldable pub keptParameters : List ℕ → List ℕ
-keptParameters ws = put ws parametersAt (part ws keptAt bufferAt)
+unfoldable pub restoredParameters : List ℕ → List ℕ
+restoredParameters ws = put ws parametersAt (part ws savedParametersAt bufferAt)
 
 -- "demands become 65,535"
 unfoldable pub fullDemands : List ℕ → List ℕ
@@ -46,7 +47,7 @@ dropped p = set p kindAt noChange
 -- "the rest stays"
 unfoldable pub restarted : Card → Card
 restarted card =
-    record { words = fullDemands (keptParameters (savedRegisters (card .words))); memory = faulted (card .memory); pending = dropped (card .pending) }
+    cardOf (fullDemands (restoredParameters (restoredRegisters (card .words)))) (faulted (card .memory)) (dropped (card .pending))
 
 -- "setting a code, restart .. give 1"
 unfoldable pub restart : Card → Reply

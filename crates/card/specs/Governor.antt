@@ -8,7 +8,7 @@ use lib.ListN.{getD}
 use Rattle.wire.specs.Choose.{choose}
 use Rattle.card.specs.Numbers.{answered, rangeUnknown, probeFault, cardUnfit}
 use Rattle.card.specs.Layout.{Card, channels}
-use Rattle.card.specs.Tables.{fit}
+use Rattle.card.specs.Fitness.{fit}
 use Rattle.card.specs.Probe.{readingOf}
 use Rattle.card.specs.declared.probe.Reading.{Reading}
 use Rattle.card.specs.declared.probe.Reading.the-variants.{Temperature, Fault as Failed}

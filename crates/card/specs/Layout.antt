@@ -14,6 +14,16 @@ pub record Card : Type 0 where
 abbrev pub cardOf : List ℕ → List ℕ → List ℕ → Card
 cardOf words memory pending = record { words = words; memory = memory; pending = pending }
 
+-- the card with one table changed
+abbrev pub withWords : Card → List ℕ → Card
+withWords card words = cardOf words (card .memory) (card .pending)
+
+abbrev pub withMemory : Card → List ℕ → Card
+withMemory card memory = cardOf (card .words) memory (card .pending)
+
+abbrev pub withPending : Card → List ℕ → Card
+withPending card pending = cardOf (card .words) (card .memory) pending
+
 -- the words: addresses
 abbrev pub iaAt : ℕ
 iaAt = 0
@@ -48,24 +58,24 @@ parametersEach = 2
 abbrev pub parameterCount : ℕ
 parameterCount = parametersEach * channels
 
-abbrev pub keptAt : ℕ
-keptAt = parametersAt + parameterCount
+abbrev pub savedParametersAt : ℕ
+savedParametersAt = parametersAt + parameterCount
 
 -- LECOM registers in three copies
 abbrev pub registers : ℕ
 registers = 96
 
 abbrev pub bufferAt : ℕ
-bufferAt = keptAt + parameterCount
+bufferAt = savedParametersAt + parameterCount
 
 abbrev pub operationalAt : ℕ
 operationalAt = bufferAt + registers
 
-abbrev pub savedAt : ℕ
-savedAt = operationalAt + registers
+abbrev pub savedRegistersAt : ℕ
+savedRegistersAt = operationalAt + registers
 
 abbrev pub wordCount : ℕ
-wordCount = savedAt + registers
+wordCount = savedRegistersAt + registers
 
 -- Datalink memory: its number of bytes
 abbrev pub memorySize : ℕ

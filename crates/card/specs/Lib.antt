@@ -1,6 +1,8 @@
 pub mod Numbers
 pub mod Layout
-pub mod Tables
+pub mod Change
+pub mod Fitness
+pub mod Scans
 pub mod Fit
 pub mod Reply
 pub mod Probe

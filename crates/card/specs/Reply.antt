@@ -7,8 +7,9 @@ use lib.ListN.{length}
 use Rattle.wire.specs.Choose.{choose}
 use Rattle.wire.specs.Buffer.{overlay}
 use Rattle.card.specs.Numbers.{answered, foreignAddress, bufferShort, cardUnfit}
-use Rattle.card.specs.Layout.{Card}
-use Rattle.card.specs.Tables.{fit}
+use Rattle.card.specs.Layout.{Card, withWords}
+use Rattle.card.specs.declared.Outcome.{Outcome}
+use Rattle.card.specs.Fitness.{fit}
 
 -- the number returned, the answer's bytes and the card as it then stands
 pub record Reply : Type 0 where
@@ -33,7 +34,7 @@ pub record WordsReply : Type 0 where
 -- the same as a reply of the card
 abbrev pub onWords : Card → WordsReply → Reply
 onWords card reply =
-    record { number = reply .number; bytes = reply .bytes; card = record { words = reply .words; memory = card .memory; pending = card .pending } }
+    record { number = reply .number; bytes = reply .bytes; card = withWords card (reply .words) }
 
 -- an answer of such a dialect: the number returned and the wire bytes; and the reply that leaves these words
 pub record Answer : Type 0 where
@@ -63,14 +64,12 @@ guarded card reply = choose (fit card) reply (silent cardUnfit card)
 pub record Keeps (card : Card) (reply : Reply) : Type 0 where
   pub kept : foreignAddress ≤ reply .number → reply .card ≡ card
 
--- an entry gave this reply: the number, the answer's length, the whole answer buffer and each table
-pub record Gave (reply : Reply) (out : List ℕ) (number len : ℕ) (words memory pending out′ : List ℕ) : Type 0 where
-  pub numbered : number ≡ reply .number
-  pub measured : len ≡ length (reply .bytes)
+-- an entry gave this reply: the number, the answer's length, the whole answer buffer and the card as it then stands
+pub record Gave (reply : Reply) (out : List ℕ) (outcome : Outcome) (card′ : Card) (out′ : List ℕ) : Type 0 where
+  pub numbered : outcome .number ≡ reply .number
+  pub measured : outcome .len ≡ length (reply .bytes)
   pub written : out′ ≡ overlay (reply .bytes) out
-  pub worded : words ≡ reply .card .words
-  pub remembered : memory ≡ reply .card .memory
-  pub pended : pending ≡ reply .card .pending
+  pub left : card′ ≡ reply .card
 
 -- an answer was written at the front of a buffer: its length and the whole buffer
 pub record Wrote (bytes out : List ℕ) (len : ℕ) (out′ : List ℕ) : Type 0 where
@@ -89,10 +88,8 @@ pub record GaveWords (reply : WordsReply) (out : List ℕ) (number len : ℕ) (w
   pub written : out′ ≡ overlay (reply .bytes) out
   pub worded : words ≡ reply .words
 
--- an entry with no answer buffer gave this reply: no wire bytes, the number and each table
-pub record Did (reply : Reply) (number : ℕ) (words memory pending : List ℕ) : Type 0 where
+-- an entry with no answer buffer gave this reply: no wire bytes, the number and the card as it then stands
+pub record Did (reply : Reply) (number : ℕ) (card′ : Card) : Type 0 where
   pub quiet : reply .bytes ≡ []
   pub numbered : number ≡ reply .number
-  pub worded : words ≡ reply .card .words
-  pub remembered : memory ≡ reply .card .memory
-  pub pended : pending ≡ reply .card .pending
+  pub left : card′ ≡ reply .card

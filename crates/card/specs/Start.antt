@@ -4,7 +4,7 @@ use Prim.Native.Nat.{ℕ, _+_, _-_}
 use mathlib.Core.List.{List, [], _∷_, _++_}
 use lib.ListN.{replicate}
 use Rattle.card.specs.Layout.{Card, cardOf, loveCount, channels, registers, memorySize, pendingSize}
-use Rattle.card.specs.Tables.{demandMost, cycleDefault, floorDefault}
+use Rattle.card.specs.Fitness.{demandMost, cycleDefault, floorDefault}
 use Rattle.card.specs.Probe.{faultCode}
 
 abbrev pub startIa : ℕ

@@ -1,17 +1,17 @@
 // The entries that set a probe code and restart.
+use crate::change::NO_CHANGE;
 use crate::fitness::DEMAND_MOST;
-use crate::fitness::NO_CHANGE;
 use crate::fitness::is_fit;
 use crate::layout::BUFFER;
 use crate::layout::CHANNELS;
 use crate::layout::DEMANDS;
-use crate::layout::KEPT;
 use crate::layout::KIND;
 use crate::layout::OPERATIONAL;
 use crate::layout::PARAMETER_COUNT;
 use crate::layout::PARAMETERS;
 use crate::layout::REGISTERS;
-use crate::layout::SAVED;
+use crate::layout::SAVED_PARAMETERS;
+use crate::layout::SAVED_REGISTERS;
 use crate::numbers::CARD_UNFIT;
 use crate::numbers::DONE;
 use crate::numbers::RANGE_UNKNOWN;
@@ -19,12 +19,15 @@ use crate::probe::FAULT_CODE;
 ghost use mathlib.Core.Path.{_≡_};
 ghost use lib.ListN.{length};
 ghost use Rattle.card.specs.Layout.{cardOf, wordCount, memorySize};
-ghost use Rattle.card.specs.Entries.{setCode, restart, fullDemands, keptParameters, savedRegisters, faulted};
+ghost use Rattle.card.specs.Entries.{setCode, restart, fullDemands, restoredParameters, restoredRegisters, faulted};
 ghost use Rattle.card.specs.Reply.{Did};
 
 // Sets the code of a probe. Words and the pending change are lent for the test of fitness only.
 pub fn set_code(words: &[u32], memory: &mut [u8], pending: &[u8], channel: u32, code: u8) -> u8
-    ensures { λ r. ⌜ Did (setCode (cardOf (now (words .entry)) (now (memory .entry)) (now (pending .entry))) channel code) r (now (words .entry)) (now (memory .exit)) (now (pending .entry)) ⌝ }
+    ensures { λ r.
+        let before = cardOf (now (words .entry)) (now (memory .entry)) (now (pending .entry)) in
+        let after = cardOf (now (words .entry)) (now (memory .exit)) (now (pending .entry)) in
+        ⌜ Did (setCode before channel code) r after ⌝ }
 {
     if !is_fit(words, memory, pending) {
         return CARD_UNFIT;
@@ -39,11 +42,11 @@ pub fn set_code(words: &[u32], memory: &mut [u8], pending: &[u8], channel: u32, 
 // Buffer and operational become saved, and parameters their saved copy.
 fn restore(words: &mut [u32])
     requires { ⌜ length (now words) ≡ wordCount ⌝ }
-    ensures { λ _. ⌜ now (words .exit) ≡ keptParameters (savedRegisters (now (words .entry))) ⌝ }
+    ensures { λ _. ⌜ now (words .exit) ≡ restoredParameters (restoredRegisters (now (words .entry))) ⌝ }
 {
-    wire::move_words(words, SAVED, BUFFER, REGISTERS);
-    wire::move_words(words, SAVED, OPERATIONAL, REGISTERS);
-    wire::move_words(words, KEPT, PARAMETERS, PARAMETER_COUNT);
+    wire::move_words(words, SAVED_REGISTERS, BUFFER, REGISTERS);
+    wire::move_words(words, SAVED_REGISTERS, OPERATIONAL, REGISTERS);
+    wire::move_words(words, SAVED_PARAMETERS, PARAMETERS, PARAMETER_COUNT);
 }
 
 // Every demand becomes full.
@@ -70,7 +73,10 @@ fn fault_probes(memory: &mut [u8])
 
 // Restart, as the card does it when its supply comes back.
 pub fn restart_card(words: &mut [u32], memory: &mut [u8], pending: &mut [u8]) -> u8
-    ensures { λ r. ⌜ Did (restart (cardOf (now (words .entry)) (now (memory .entry)) (now (pending .entry)))) r (now (words .exit)) (now (memory .exit)) (now (pending .exit)) ⌝ }
+    ensures { λ r.
+        let before = cardOf (now (words .entry)) (now (memory .entry)) (now (pending .entry)) in
+        let after = cardOf (now (words .exit)) (now (memory .exit)) (now (pending .exit)) in
+        ⌜ Did (restart before) r after ⌝ }
 {
     if !is_fit(words, memory, pending) {
         return CARD_UNFIT;

@@ -1,44 +1,24 @@
 // Number 12: whether lent tables keep to document 01, "What the card holds".
+use crate::change::fit_pending;
 use crate::layout::BUFFER;
-use crate::layout::DATA_MOST;
 use crate::layout::DEMANDS;
-use crate::layout::HIGH_ADDRESS;
 use crate::layout::IA;
-use crate::layout::KIND;
 use crate::layout::LECOM_ADDRESS;
 use crate::layout::LOVE;
 use crate::layout::LOVE_ADDRESS;
-use crate::layout::LOW_ADDRESS;
 use crate::layout::MEMORY;
-use crate::layout::NUM;
 use crate::layout::PARAMETERS;
+use crate::layout::PARAMETERS_EACH;
 use crate::layout::PENDING;
 use crate::layout::REGISTERS;
 use crate::layout::WORDS;
-use wire::BYTE_VALUES;
 ghost use mathlib.Core.Path.{_≡_};
 ghost use Prim.Native.Nat.{_*_};
 ghost use lib.ListN.{length};
 ghost use Rattle.wire.specs.Word.{minus};
-ghost use Rattle.card.specs.Layout.{cardOf, parameterCount, registers, wordCount, pendingSize};
-ghost use Rattle.card.specs.Tables.{inSpan, allIn, inMemory, namesReadOnly, named, numRight, echoable, addressOf, fitPending, lecomRight, loveRight, fitAddresses, fitParameters, registerMost, fitWords, fit};
-
-// Datalink addresses: the first, the one after the last, and the first writable one.
-pub const MEMORY_START: u32 = 0x1000;
-
-pub const MEMORY_END: u32 = MEMORY_START + MEMORY as u32;
-
-pub const WRITABLE_START: u32 = 0x1010;
-
-// What the high byte of an address counts.
-const HIGH_WEIGHT: u16 = BYTE_VALUES as u16;
-
-// Kinds of a pending change.
-pub const NO_CHANGE: u8 = 0;
-
-pub const CHANGE: u8 = 1;
-
-pub const CHANGE_BITS: u8 = 2;
+ghost use Rattle.card.specs.Layout.{cardOf, parameterCount, registers, wordCount};
+ghost use Rattle.card.specs.Fitness.{inSpan, inRange, lecomRight, loveRight, registerMost, fitWords, fit};
+ghost use Rattle.card.specs.Scans.{allIn, fitAddresses, fitParameters};
 
 // Addresses. A LECOM address has two decimal figures, neither of them zero; the low two hex figures of a Love address are not 00.
 pub const IA_MOST: u32 = 31;
@@ -100,71 +80,6 @@ pub fn all_in(s: &[u32], lo: u32, hi: u32) -> bool
     ok
 }
 
-// Whether the n bytes named from an address lie in Datalink memory.
-pub fn in_memory(at: u16, n: u8) -> bool
-    ensures { λ r. ⌜ r ≡ inMemory at n ⌝ }
-{
-    let start = at as u32;
-    let end = start + n as u32;
-    (MEMORY_START <= start) & (end <= MEMORY_END)
-}
-
-// Whether the n bytes named from an address hold a read-only one.
-pub fn names_read_only(at: u16, n: u8) -> bool
-    ensures { λ r. ⌜ r ≡ namesReadOnly at n ⌝ }
-{
-    let start = at as u32;
-    (n != 0) & (start < WRITABLE_START)
-}
-
-// How many bytes a change of num data bytes names.
-pub fn bytes_named(kind: u8, num: u8) -> u8
-    ensures { λ r. ⌜ r ≡ named kind num ⌝ }
-{
-    if kind == CHANGE_BITS {
-        return num / 2;
-    }
-    num
-}
-
-// Whether NUM is right for the kind of change.
-pub fn num_right(kind: u8, num: u8) -> bool
-    ensures { λ r. ⌜ r ≡ numRight kind num ⌝ }
-{
-    (num <= DATA_MOST as u8) & ((kind != CHANGE_BITS) | (num % 2 == 0))
-}
-
-// Whether the Datalink order would have echoed this change.
-fn is_echoable(kind: u8, num: u8, at: u16, n: u8) -> bool
-    ensures { λ r. ⌜ r ≡ echoable kind num at n ⌝ }
-{
-    let right = num_right(kind, num);
-    let inside = in_memory(at, n);
-    let fixed = names_read_only(at, n);
-    (kind <= CHANGE_BITS) & (right & (inside & !fixed))
-}
-
-// An address from its two bytes.
-pub fn address(low: u8, high: u8) -> u16
-    ensures { λ r. ⌜ r ≡ addressOf low high ⌝ }
-{
-    low as u16 + HIGH_WEIGHT * (high as u16)
-}
-
-// Whether the pending change is none, or as it was echoed.
-fn fit_pending(pending: &[u8]) -> bool
-    requires { ⌜ length (now pending) ≡ pendingSize ⌝ }
-    ensures { λ r. ⌜ r ≡ fitPending (now (pending .entry)) ⌝ }
-{
-    let kind = pending[KIND];
-    if kind == NO_CHANGE {
-        return true;
-    }
-    let num = pending[NUM];
-    let at = address(pending[LOW_ADDRESS], pending[HIGH_ADDRESS]);
-    is_echoable(kind, num, at, bytes_named(kind, num))
-}
-
 // Whether a LECOM address is in its range.
 pub fn lecom_right(lecom: u32) -> bool
     ensures { λ r. ⌜ r ≡ lecomRight lecom ⌝ }
@@ -177,6 +92,34 @@ pub fn love_right(love: u32) -> bool
     ensures { λ r. ⌜ r ≡ loveRight love ⌝ }
 {
     (love <= LOVE_ADDRESS_MOST) & (love % LOVE_HUNDRED != 0)
+}
+
+// Whether x is in the range of a word of the card.
+pub fn in_range(word: usize, x: u32) -> bool
+    ensures { λ r. ⌜ r ≡ inRange word x ⌝ }
+{
+    if word == IA {
+        return x <= IA_MOST;
+    }
+    if word == LECOM_ADDRESS {
+        return lecom_right(x);
+    }
+    if word == LOVE_ADDRESS {
+        return love_right(x);
+    }
+    if word < DEMANDS {
+        return in_span(x, LOVE_LEAST, LOVE_MOST);
+    }
+    if word < PARAMETERS {
+        return in_span(x, 0, DEMAND_MOST);
+    }
+    if BUFFER <= word {
+        return in_span(x, REGISTER_LEAST, REGISTER_MOST);
+    }
+    if (word - PARAMETERS) % PARAMETERS_EACH == 0 {
+        return in_span(x, CYCLE_LEAST, CYCLE_MOST);
+    }
+    in_span(x, 0, FLOOR_MOST)
 }
 
 // Whether the three addresses are in their ranges.

@@ -21,17 +21,17 @@ pub const PARAMETERS_EACH: usize = 2;
 
 pub const PARAMETER_COUNT: usize = PARAMETERS_EACH * CHANNELS;
 
-pub const KEPT: usize = PARAMETERS + PARAMETER_COUNT;
+pub const SAVED_PARAMETERS: usize = PARAMETERS + PARAMETER_COUNT;
 // The three copies of the LECOM registers stand last, so that their number can grow.
 pub const REGISTERS: usize = 96;
 
-pub const BUFFER: usize = KEPT + PARAMETER_COUNT;
+pub const BUFFER: usize = SAVED_PARAMETERS + PARAMETER_COUNT;
 
 pub const OPERATIONAL: usize = BUFFER + REGISTERS;
 
-pub const SAVED: usize = OPERATIONAL + REGISTERS;
+pub const SAVED_REGISTERS: usize = OPERATIONAL + REGISTERS;
 
-pub const WORDS: usize = SAVED + REGISTERS;
+pub const WORDS: usize = SAVED_REGISTERS + REGISTERS;
 
 // Datalink memory; its first bytes are the probe codes, a channel each.
 pub const MEMORY: usize = 4096;

@@ -1,4 +1,5 @@
 // The card's tables, their fitness, the probe reading, and the entries set code, restart and governor.
+pub mod change;
 pub mod entries;
 pub mod fitness;
 pub mod governor;

@@ -10,6 +10,7 @@ use lib.ListN.{length, getD, length-append}
 use Rattle.wire.specs.Buffer.{overlay}
 use Rattle.wire.proofs.Cases.{by-choice}
 use Rattle.card.specs.Layout.{Card}
+use Rattle.card.specs.declared.Outcome.{Outcome}
 use Rattle.card.specs.Reply.{Reply, Gave}
 use Rattle.master.specs.declared.Phase.{Phase}
 use Rattle.master.specs.Step.{Move, Stepped}
@@ -21,7 +22,7 @@ use Rattle.card.specs.declared.probe.Reading.the-variants.{Temperature, Fault a
 use Rattle.lines.specs.Text.{isReal}
 
 -- an entry's answer is in the buffer
-pub answer-fits : {reply : Reply} {out words memory pending out′ : List ℕ} {number len : ℕ} → Gave reply out number len words memory pending out′ → len ≤ length out′
+pub answer-fits : {reply : Reply} {out out′ : List ℕ} {o : Outcome} {card′ : Card} → Gave reply out o card′ out′ → o .len ≤ length out′
 unfolding overlay
 answer-fits g = rw (g .measured, g .written, length-append) (omega arith)
 

@@ -3,11 +3,11 @@ use card::fitness::CYCLE_DEFAULT;
 use card::fitness::DEMAND_MOST;
 use card::layout::DEMANDS;
 use card::layout::IA;
-use card::layout::KEPT;
 use card::layout::LECOM_ADDRESS;
 use card::layout::LOVE_ADDRESS;
 use card::layout::PARAMETERS;
 use card::layout::PARAMETERS_EACH;
+use card::layout::SAVED_PARAMETERS;
 use card::probe::FAULT_CODE;
 ghost use mathlib.Core.Path.{_≡_};
 ghost use lib.ListN.{replicate};
@@ -34,7 +34,7 @@ const THIRD_CYCLE: usize = SECOND_CYCLE + PARAMETERS_EACH;
 
 const FOURTH_CYCLE: usize = THIRD_CYCLE + PARAMETERS_EACH;
 
-const SECOND_KEPT: usize = KEPT + PARAMETERS_EACH;
+const SECOND_KEPT: usize = SAVED_PARAMETERS + PARAMETERS_EACH;
 
 const THIRD_KEPT: usize = SECOND_KEPT + PARAMETERS_EACH;
 
@@ -56,7 +56,7 @@ pub fn start_words(words: &mut [u32])
     words[SECOND_CYCLE] = CYCLE_DEFAULT;
     words[THIRD_CYCLE] = CYCLE_DEFAULT;
     words[FOURTH_CYCLE] = CYCLE_DEFAULT;
-    words[KEPT] = CYCLE_DEFAULT;
+    words[SAVED_PARAMETERS] = CYCLE_DEFAULT;
     words[SECOND_KEPT] = CYCLE_DEFAULT;
     words[THIRD_KEPT] = CYCLE_DEFAULT;
     words[FOURTH_KEPT] = CYCLE_DEFAULT;

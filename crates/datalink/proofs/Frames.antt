@@ -8,12 +8,12 @@ use native.Mathlib.Omega.{arith}
 use borrow.Author.Tests.{leb-true, eqb-true, eqb-false, ne-eqb}
 use lib.Dec.{leb, eqb, lit≤}
 use lib.ListN.{length}
+use Rattle.wire.proofs.Tests.{and-true}
 use Rattle.wire.specs.Choose.{choose}
 use Rattle.wire.proofs.Cases.{by-choice, no}
 use Rattle.card.specs.Numbers.{foreignAddress, frameForm, checkCharacter, commandUnknown, rangeUnknown, readOnly}
 use Rattle.card.specs.Layout.{dataMost}
-use Rattle.card.specs.Tables.{noChange, change, changeBits, named, numRight, inMemory, namesReadOnly, echoable, memoryStart, memoryEnd}
-use Rattle.card.proofs.Facts.{and-true}
+use Rattle.card.specs.Change.{noChange, change, changeBits, named, numRight, inMemory, namesReadOnly, echoable, memoryStart, memoryEnd}
 use Rattle.datalink.specs.Frame.{shortest, longest, bareSize, acknowledgeBits, changeCommandBits, changeBitsBits, carried, kindOf, commandIn, numIn, addressIn, kindIn, namedIn, isAcknowledge, lengthRight, formRight, rangeRight, changeAllowed, changeRight, orderIn, unless, asked}
 use Rattle.datalink.specs.declared.frame.Order.{Order}
 use Rattle.datalink.specs.declared.frame.Order.the-variants.{Refused, Interrogate, Change, Acknowledge}

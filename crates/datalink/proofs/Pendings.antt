@@ -7,12 +7,12 @@ use native.Mathlib.Omega.{arith}
 use borrow.Author.Tests.{ne-eqb, eqb-false}
 use lib.Dec.{leb, eqb}
 use lib.ListN.{length, getD, set}
+use Rattle.wire.proofs.Tests.{and-true}
 use Rattle.wire.specs.Buffer.{put, overlay}
 use Rattle.wire.proofs.Cases.{by-choice}
 use Rattle.wire.proofs.Buffers.{overlay-sets, overlay-put}
 use Rattle.card.specs.Layout.{kindAt, numAt, lowAddressAt, highAddressAt, dataMost}
-use Rattle.card.specs.Tables.{noChange, changeBits, named, numRight, inMemory, addressOf, echoable, fitPending, memoryStart, memoryEnd}
-use Rattle.card.proofs.Facts.{and-true}
+use Rattle.card.specs.Change.{noChange, changeBits, named, numRight, inMemory, addressOf, echoable, fitPending, memoryStart, memoryEnd}
 use Rattle.datalink.proofs.Frames.{memory-facts, num-most}
 
 -- the kind and then the body of a change stored at the front

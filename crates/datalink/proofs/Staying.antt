@@ -7,14 +7,15 @@ use native.Mathlib.Omega.{arith}
 use lib.Dec.{eqb}
 use lib.ListN.{length, getD, drop, length-set, List·getD-append}
 use lib.Seq.{getD-drop, getD-take}
+use Rattle.wire.proofs.Tests.{or-true-right}
 use Rattle.wire.specs.Buffer.{overlay}
 use Rattle.wire.proofs.Cases.{by-choice}
 use Rattle.wire.proofs.Buffers.{length-overlay, length-part}
 use Rattle.card.specs.Layout.{Card, kindAt}
-use Rattle.card.specs.Tables.{noChange, named, echoable, fitPending, fit}
+use Rattle.card.specs.Change.{noChange, named, echoable, fitPending}
+use Rattle.card.specs.Fitness.{fit}
 use Rattle.card.specs.Reply.{roomLeast}
 use Rattle.card.proofs.Facts.{fit-tables, tables-fit}
-use Rattle.card.proofs.Scans.{or-true-right}
 use Rattle.card.proofs.Staying.{IsFit, shell-fit, dropped-fit, length-dropped}
 use Rattle.datalink.specs.Frame.{numPlace, dataPlace, numIn, addressIn, asked}
 use Rattle.datalink.specs.Answer.{iaOf, interrogated, bodyOf, pended, echoed, changed, appliedTo, applied, acknowledged, obeyed, datalinkReply}

@@ -7,8 +7,8 @@ use lib.ListN.{getD, set, drop}
 use Rattle.wire.specs.Choose.{choose}
 use Rattle.wire.specs.Buffer.{part, overlay}
 use Rattle.card.specs.Numbers.{answered, done, nothingPending}
-use Rattle.card.specs.Layout.{Card, iaAt, kindAt, numAt, lowAddressAt, highAddressAt, dataAt}
-use Rattle.card.specs.Tables.{noChange, changeBits, named, addressOf, memoryStart}
+use Rattle.card.specs.Layout.{Card, cardOf, withPending, iaAt, kindAt, numAt, lowAddressAt, highAddressAt, dataAt}
+use Rattle.card.specs.Change.{noChange, changeBits, named, addressOf, memoryStart}
 use Rattle.card.specs.Entries.{dropped}
 use Rattle.card.specs.Reply.{Reply, silent, sent, shell, roomLeast}
 use Rattle.datalink.specs.Frame.{framed, responseBits, numPlace, dataPlace, asked}
@@ -37,7 +37,7 @@ bodyOf f num = part f numPlace (dataPlace + num)
 
 -- "An echoed change becomes the pending one, in place of an older."
 unfoldable pub pended : Card → ℕ → List ℕ → Card
-pended card kind body = record { words = card .words; memory = card .memory; pending = overlay (kind ∷ body) (card .pending) }
+pended card kind body = withPending card (overlay (kind ∷ body) (card .pending))
 
 -- Change and Change Bits: the echo
 unfoldable pub echoed : Card → List ℕ → ℕ → ℕ → Reply
@@ -60,7 +60,7 @@ appliedTo memory p =
 
 -- "Acknowledge applies and clears it (1), or is 10."
 unfoldable pub applied : Card → Card
-applied card = record { words = card .words; memory = appliedTo (card .memory) (card .pending); pending = dropped (card .pending) }
+applied card = cardOf (card .words) (appliedTo (card .memory) (card .pending)) (dropped (card .pending))
 
 unfoldable pub acknowledged : Card → Reply
 acknowledged card = choose (eqb (getD (card .pending) kindAt 0) noChange) (silent nothingPending card) (silent done (applied card))

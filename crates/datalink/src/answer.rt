@@ -4,10 +4,10 @@ use crate::frame;
 use crate::frame::Order;
 use crate::write::write_frame;
 use card::Outcome;
-use card::fitness;
-use card::fitness::CHANGE_BITS;
-use card::fitness::MEMORY_START;
-use card::fitness::NO_CHANGE;
+use card::change;
+use card::change::CHANGE_BITS;
+use card::change::MEMORY_START;
+use card::change::NO_CHANGE;
 use card::layout::DATA;
 use card::layout::HIGH_ADDRESS;
 use card::layout::IA;
@@ -23,7 +23,8 @@ ghost use Prim.Native.Nat.{_+_, _-_, _<_, _≤_};
 ghost use lib.ListN.{length};
 ghost use Rattle.wire.specs.Buffer.{overlay, part};
 ghost use Rattle.card.specs.Layout.{cardOf, memorySize, pendingSize, dataMost};
-ghost use Rattle.card.specs.Tables.{iaMost, changeBits, memoryStart, memoryEnd};
+ghost use Rattle.card.specs.Change.{changeBits, memoryStart, memoryEnd};
+ghost use Rattle.card.specs.Fitness.{iaMost};
 ghost use Rattle.card.specs.Fit.{Fit};
 ghost use Rattle.card.specs.Reply.{Gave, Did, Wrote, roomLeast};
 ghost use Rattle.datalink.specs.Frame.{besideBody, asked, numPlace, dataPlace, bareSize};
@@ -75,15 +76,18 @@ fn apply(memory: &mut [u8], kind: u8, a: usize, sent: &[u8], count: usize)
 // Acknowledge: applies and clears the pending change, if there is one.
 fn acknowledge(words: &[u32], memory: &mut [u8], pending: &mut [u8]) -> u8
     requires { ⌜ Fit (cardOf (now words) (now memory) (now pending)) ⌝ }
-    ensures { λ r. ⌜ Did (acknowledged (cardOf (now (words .entry)) (now (memory .entry)) (now (pending .entry)))) r (now (words .entry)) (now (memory .exit)) (now (pending .exit)) ⌝ }
+    ensures { λ r.
+        let before = cardOf (now (words .entry)) (now (memory .entry)) (now (pending .entry)) in
+        let after = cardOf (now (words .entry)) (now (memory .exit)) (now (pending .exit)) in
+        ⌜ Did (acknowledged before) r after ⌝ }
 {
     let kind = pending[KIND];
     if kind == NO_CHANGE {
         return NOTHING_PENDING;
     }
-    let at = fitness::address(pending[LOW_ADDRESS], pending[HIGH_ADDRESS]) as usize;
+    let at = change::address(pending[LOW_ADDRESS], pending[HIGH_ADDRESS]) as usize;
     let a = at - MEMORY_START as usize;
-    let count = fitness::bytes_named(kind, pending[NUM]) as usize;
+    let count = change::bytes_named(kind, pending[NUM]) as usize;
     apply(memory, kind, a, &pending[DATA..], count);
     pending[KIND] = NO_CHANGE;
     DONE
@@ -124,7 +128,10 @@ pub fn obey(
     out: &mut [u8],
 ) -> Outcome
     requires { ⌜ Fit (cardOf (now words) (now memory) (now pending)) × (roomLeast ≤ length (now out)) ⌝ }
-    ensures { λ r. ⌜ Gave (obeyed (cardOf (now (words .entry)) (now (memory .entry)) (now (pending .entry))) (now (f .entry)) (asked (iaOf (cardOf (now (words .entry)) (now (memory .entry)) (now (pending .entry)))) (now (f .entry)))) (now (out .entry)) (r .number) (r .len) (now (words .entry)) (now (memory .exit)) (now (pending .exit)) (now (out .exit)) ⌝ }
+    ensures { λ r.
+        let before = cardOf (now (words .entry)) (now (memory .entry)) (now (pending .entry)) in
+        let after = cardOf (now (words .entry)) (now (memory .exit)) (now (pending .exit)) in
+        ⌜ Gave (obeyed before (now (f .entry)) (asked (iaOf before) (now (f .entry)))) (now (out .entry)) r after (now (out .exit)) ⌝ }
 {
     let ia = words[IA];
     let order = frame::order_of(ia, f);

@@ -1,9 +1,9 @@
 // What a Datalink frame asks.
 use crate::form::Datalink;
-use card::fitness;
-use card::fitness::CHANGE;
-use card::fitness::CHANGE_BITS;
-use card::fitness::NO_CHANGE;
+use card::change;
+use card::change::CHANGE;
+use card::change::CHANGE_BITS;
+use card::change::NO_CHANGE;
 use card::numbers::CHECK_CHARACTER;
 use card::numbers::COMMAND_UNKNOWN;
 use card::numbers::FOREIGN_ADDRESS;
@@ -17,7 +17,7 @@ ghost use lib.Dec.{eqb};
 ghost use lib.ListN.{length};
 ghost use Rattle.wire.specs.Choose.{choose};
 ghost use Rattle.card.specs.Numbers.{rangeUnknown, readOnly};
-ghost use Rattle.card.specs.Tables.{noChange, inMemory};
+ghost use Rattle.card.specs.Change.{noChange, inMemory};
 ghost use Rattle.datalink.specs.Frame.{iaIn, commandIn, kindOf, commandKnown, carried, formRight, lrcRight, rangeRight, changeAllowed, changeRight, orderIn, unless, asked, shortest};
 
 // What a frame asks: the bytes from an address, a change of its kind and NUM, that the pending change be applied, or nothing.
@@ -93,7 +93,7 @@ fn form_right(f: &[u8]) -> bool
     let kind = kind_of(command);
     let num = f[Datalink::NUM];
     let data = data_carried(kind, num);
-    let right = fitness::num_right(kind, num);
+    let right = change::num_right(kind, num);
     (f.len() == Datalink::BARE + data as usize) & right
 }
 
@@ -119,15 +119,15 @@ fn order_in(f: &[u8]) -> Order
     }
     let kind = kind_of(command);
     let num = f[Datalink::NUM];
-    let at = fitness::address(f[Datalink::LOW_ADDRESS], f[Datalink::HIGH_ADDRESS]);
-    order_at(kind, num, at, fitness::bytes_named(kind, num))
+    let at = change::address(f[Datalink::LOW_ADDRESS], f[Datalink::HIGH_ADDRESS]);
+    order_at(kind, num, at, change::bytes_named(kind, num))
 }
 
 // Whether the n bytes named may be asked for by a frame of this kind.
 fn change_allowed(kind: u8, at: u16, n: u8) -> bool
     ensures { λ r. ⌜ r ≡ changeAllowed kind at n ⌝ }
 {
-    let fixed = fitness::names_read_only(at, n);
+    let fixed = change::names_read_only(at, n);
     (kind == NO_CHANGE) | !fixed
 }
 
@@ -135,7 +135,7 @@ fn change_allowed(kind: u8, at: u16, n: u8) -> bool
 fn order_at(kind: u8, num: u8, at: u16, n: u8) -> Order
     ensures { λ r. ⌜ r ≡ unless (inMemory at n) rangeUnknown (unless (changeAllowed kind at n) readOnly (choose (eqb kind noChange) (Order.Interrogate at num) (Order.Change kind num))) ⌝ }
 {
-    if !fitness::in_memory(at, n) {
+    if !change::in_memory(at, n) {
         return Order::Refused(RANGE_UNKNOWN);
     }
     if !change_allowed(kind, at, n) {

@@ -20,7 +20,10 @@ pub fn datalink(
     f: &[u8],
     out: &mut [u8],
 ) -> Outcome
-    ensures { λ r. ⌜ Gave (datalinkReply (cardOf (now (words .entry)) (now (memory .entry)) (now (pending .entry))) (length (now (out .entry))) (now (f .entry))) (now (out .entry)) (r .number) (r .len) (now (words .entry)) (now (memory .exit)) (now (pending .exit)) (now (out .exit)) ⌝ }
+    ensures { λ r.
+        let before = cardOf (now (words .entry)) (now (memory .entry)) (now (pending .entry)) in
+        let after = cardOf (now (words .entry)) (now (memory .exit)) (now (pending .exit)) in
+        ⌜ Gave (datalinkReply before (length (now (out .entry))) (now (f .entry))) (now (out .entry)) r after (now (out .exit)) ⌝ }
 {
     let number = card::stop_early(words, memory, pending, ROOM_LEAST, out.len());
     if number != ANSWERED {

@@ -8,8 +8,10 @@ use Rattle.wire.specs.Sum.{total, sumOf}
 use Rattle.figures.specs.Figure.{inRange, figureOf, charOf, allFigures, pairByte, pairOf}
 use Rattle.figures.specs.Decimal.{digits, sizeWithin, sizeOf, shortest, valueFrom, valueOf}
 use Rattle.figures.specs.Signed.{isNegative, magnitude, withSign, textOf, figuresOf, parsedOf}
-use Rattle.card.specs.Tables.{inSpan, allIn, inMemory, namesReadOnly, named, numRight, echoable, addressOf, fitPending, fitAddresses, fitParameters, fitWords, fit}
-use Rattle.card.specs.Entries.{withCode, setCode, fullDemands, keptParameters, savedCopy, savedRegisters, dropped, faulted, restarted, restart}
+use Rattle.card.specs.Change.{inMemory, namesReadOnly, named, numRight, echoable, addressOf, fitPending}
+use Rattle.card.specs.Fitness.{inSpan, fitWords, fit}
+use Rattle.card.specs.Scans.{allIn, fitAddresses, fitParameters}
+use Rattle.card.specs.Entries.{withCode, setCode, fullDemands, restoredParameters, registersTo, restoredRegisters, dropped, faulted, restarted, restart}
 use Rattle.card.specs.Reply.{shell, guarded}
 use Rattle.card.specs.Probe.{tenthsOf, readingOf}
 use Rattle.card.specs.Start.{startCard}
@@ -31,5 +33,5 @@ allHold [] = true
 allHold (row ∷ rest) = holds startCard row && allHold rest
 
 pub checked : allHold rows ≡ true
-unfolding choose put overlay same total sumOf inRange figureOf charOf allFigures pairByte pairOf digits sizeWithin sizeOf shortest valueFrom valueOf isNegative magnitude withSign textOf figuresOf parsedOf inSpan allIn inMemory namesReadOnly named numRight echoable addressOf fitPending fitAddresses fitParameters fitWords fit withCode setCode fullDemands keptParameters savedCopy savedRegisters dropped faulted restarted restart shell guarded tenthsOf readingOf datalinkIaIn datalinkCommandIn datalinkNumIn datalinkAddressIn datalinkFramed datalinkCommandKnown datalinkKindOf datalinkKindIn datalinkNamedIn datalinkIsAcknowledge datalinkCarried datalinkLengthRight datalinkFormRight datalinkLrcRight datalinkRangeRight datalinkChangeAllowed datalinkChangeRight datalinkOrderIn datalinkAsked datalinkResponse datalinkIaOf datalinkShown datalinkInterrogated datalinkBodyOf datalinkPended datalinkEchoed datalinkNewByte datalinkChanged datalinkAppliedTo datalinkApplied datalinkAcknowledged datalinkObeyed datalinkDatalinkReply lecomLengthRight lecomFiguresRight lecomTensIn lecomOnesIn lecomCollective lecomReaches lecomIsWrite lecomCodeStart lecomIsExtended lecomHexStart lecomCodeEnd lecomCodeOf lecomSizeRight lecomEndRight lecomCodeRight lecomXorFrom lecomBccOf lecomBccRight lecomPairIn lecomCodeNumber lecomSubcodeRight lecomCodeNamed lecomCodeKnown lecomWritable lecomWriteRight lecomDataOf lecomDataRead lecomTakes lecomValueRight lecomValueIn lecomDataRight lecomOrderIn lecomAsked lecomValueBody lecomValueBytes lecomUnknownBytes lecomRefusalBytes lecomDoneBy lecomRefusedBy lecomProbeAnswer lecomReadAnswer lecomActivated lecomStored lecomWritten lecomObeyed lecomAddressOf lecomLecomReply loveLengthRight loveFilterOf loveForUnit loveChecksumRight loveParameterOf loveSignRight loveNumberIn loveAsked loveUnitOf loveErrorReply loveNormalReply loveWrittenField loveSignOf loveValueField loveStatusField loveProbeField loveFaultReply loveObeyed loveLoveReply lucidChannelsFrom lucidSizeOf lucidLittle lucidNumberAt lucidMaskOf lucidLenFor lucidAddressKnown lucidInRange lucidValueRight lucidPlaceOf lucidOrderedParameter lucidOrdered lucidAsked lucidJoined lucidGroup lucidHundredthsOf lucidTemperatureIn lucidReadingIn lucidValueOf lucidRead lucidDemanded lucidStored lucidReset lucidAnswerTo lucidChanged lucidLucidWords lucidLucidReply lucidNamed lucidReadsProbe lucidAsksProbe
+unfolding choose put overlay same total sumOf inRange figureOf charOf allFigures pairByte pairOf digits sizeWithin sizeOf shortest valueFrom valueOf isNegative magnitude withSign textOf figuresOf parsedOf inSpan allIn inMemory namesReadOnly named numRight echoable addressOf fitPending fitAddresses fitParameters fitWords fit withCode setCode fullDemands restoredParameters registersTo restoredRegisters dropped faulted restarted restart shell guarded tenthsOf readingOf datalinkIaIn datalinkCommandIn datalinkNumIn datalinkAddressIn datalinkFramed datalinkCommandKnown datalinkKindOf datalinkKindIn datalinkNamedIn datalinkIsAcknowledge datalinkCarried datalinkLengthRight datalinkFormRight datalinkLrcRight datalinkRangeRight datalinkChangeAllowed datalinkChangeRight datalinkOrderIn datalinkAsked datalinkResponse datalinkIaOf datalinkShown datalinkInterrogated datalinkBodyOf datalinkPended datalinkEchoed datalinkNewByte datalinkChanged datalinkAppliedTo datalinkApplied datalinkAcknowledged datalinkObeyed datalinkDatalinkReply lecomLengthRight lecomFiguresRight lecomTensIn lecomOnesIn lecomCollective lecomReaches lecomIsWrite lecomCodeStart lecomIsExtended lecomHexStart lecomCodeEnd lecomCodeOf lecomSizeRight lecomEndRight lecomCodeRight lecomXorFrom lecomBccOf lecomBccRight lecomPairIn lecomCodeNumber lecomSubcodeRight lecomCodeNamed lecomCodeKnown lecomWritable lecomWriteRight lecomDataOf lecomDataRead lecomTakes lecomValueRight lecomValueIn lecomDataRight lecomOrderIn lecomAsked lecomValueBody lecomValueBytes lecomUnknownBytes lecomRefusalBytes lecomDoneBy lecomRefusedBy lecomProbeAnswer lecomReadAnswer lecomActivated lecomStored lecomWritten lecomObeyed lecomAddressOf lecomLecomReply loveLengthRight loveFilterOf loveForUnit loveChecksumRight loveParameterOf loveSignRight loveNumberIn loveAsked loveUnitOf loveErrorReply loveNormalReply loveWrittenField loveSignOf loveValueField loveStatusField loveProbeField loveFaultReply loveObeyed loveLoveReply lucidChannelsFrom lucidSizeOf lucidLittle lucidNumberAt lucidMaskOf lucidLenFor lucidAddressKnown lucidInRange lucidValueRight lucidPlaceOf lucidOrderedParameter lucidOrdered lucidAsked lucidJoined lucidGroup lucidHundredthsOf lucidTemperatureIn lucidReadingIn lucidValueOf lucidRead lucidDemanded lucidStored lucidReset lucidAnswerTo lucidChanged lucidLucidWords lucidLucidReply lucidNamed lucidReadsProbe lucidAsksProbe
 checked = refl

@@ -17,7 +17,8 @@ use Rattle.wire.specs.Sum.{sumOf}
 use Rattle.wire.proofs.Cases.{by-choice}
 use Rattle.card.specs.Numbers.{foreignAddress, nothingPending, bufferShort, cardUnfit, rangeUnknown, readOnly, frameForm}
 use Rattle.card.specs.Layout.{Card, kindAt}
-use Rattle.card.specs.Tables.{noChange, inMemory, namesReadOnly, fit}
+use Rattle.card.specs.Change.{noChange, inMemory, namesReadOnly}
+use Rattle.card.specs.Fitness.{fit}
 use Rattle.card.specs.Reply.{Reply, silent, shell, roomLeast}
 use Rattle.datalink.specs.Frame.{numPlace, dataPlace, framed, lengthRight, asked}
 use Rattle.datalink.specs.Answer.{response, iaOf, shown, bodyOf, pended, applied, echoed, interrogated, acknowledged, obeyed, datalinkReply}

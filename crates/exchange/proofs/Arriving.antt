@@ -13,7 +13,7 @@ use lib.Seq.{getD-drop, getD-take}
 use Rattle.wire.proofs.Cases.{by-choice}
 use Rattle.card.specs.Numbers.{answered, foreignAddress}
 use Rattle.card.specs.Layout.{Card}
-use Rattle.card.specs.Tables.{memoryStart}
+use Rattle.card.specs.Change.{memoryStart}
 use Rattle.card.specs.Reply.{Reply}
 use Rattle.card.proofs.Facts.{fit-facts}
 use Rattle.datalink.specs.Answer.{shown, applied, datalinkReply}

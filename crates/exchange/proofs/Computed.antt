@@ -8,15 +8,17 @@ use native.Mathlib.Omega.{arith}
 use borrow.Author.Tests.{leb-true}
 use lib.Dec.{leb}
 use lib.ListN.{replicate}
+use Rattle.wire.proofs.Tests.{and-true}
 use Rattle.wire.specs.Choose.{choose}
 use Rattle.wire.specs.Buffer.{put, overlay, same}
 use Rattle.wire.specs.Sum.{total, sumOf}
 use Rattle.card.specs.Layout.{Card, cardOf, memorySize, dataMost, pendingSize}
-use Rattle.card.specs.Tables.{change, inSpan, allIn, inMemory, namesReadOnly, named, numRight, echoable, addressOf, fitPending, fitAddresses, fitParameters, fitWords, fit}
+use Rattle.card.specs.Change.{change, inMemory, namesReadOnly, named, numRight, echoable, addressOf, fitPending}
+use Rattle.card.specs.Fitness.{inSpan, fitWords, fit}
+use Rattle.card.specs.Scans.{allIn, fitAddresses, fitParameters}
 use Rattle.card.specs.Start.{startWords}
 use Rattle.card.specs.Reply.{shell, guarded}
-use Rattle.card.specs.Entries.{withCode, setCode, fullDemands, keptParameters, savedCopy, savedRegisters, dropped, faulted, restarted, restart}
-use Rattle.card.proofs.Facts.{and-true}
+use Rattle.card.specs.Entries.{withCode, setCode, fullDemands, restoredParameters, registersTo, restoredRegisters, dropped, faulted, restarted, restart}
 use Rattle.datalink.specs.Frame.{iaIn, commandIn, numIn, addressIn, framed, commandKnown, kindOf, kindIn, namedIn, isAcknowledge, carried, lengthRight, formRight, lrcRight, rangeRight, changeAllowed, changeRight, orderIn, asked}
 use Rattle.datalink.specs.Answer.{response, iaOf, shown, interrogated, bodyOf, pended, echoed, newByte, changed, appliedTo, applied, acknowledged, obeyed, datalinkReply}
 use Rattle.master.specs.Request.{Request, askable, asAsked}
@@ -31,7 +33,7 @@ use Rattle.exchange.specs.Premise.{writes, AtMostTwice, Quiet, AsWorded}
 
 -- to unfold this is to unfold every definition of a run
 unfoldable pub computed : Unit {0}
-unfolding choose put overlay total sumOf inSpan allIn inMemory namesReadOnly named numRight echoable addressOf fitPending fitAddresses fitParameters fitWords fit shell guarded withCode setCode fullDemands keptParameters savedCopy savedRegisters dropped faulted restarted restart iaIn commandIn numIn addressIn framed commandKnown kindOf kindIn namedIn isAcknowledge carried lengthRight formRight lrcRight rangeRight changeAllowed changeRight orderIn asked response iaOf shown interrogated bodyOf pended echoed newByte changed appliedTo applied acknowledged obeyed datalinkReply askable asAsked changeFrame acknowledgeFrame interrogateFrame same echo isEcho isResponse allAsked confirms move stepOf replyOf closing afterStep afterArrival afterRestart called run
+unfolding choose put overlay total sumOf inSpan allIn inMemory namesReadOnly named numRight echoable addressOf fitPending fitAddresses fitParameters fitWords fit shell guarded withCode setCode fullDemands restoredParameters registersTo restoredRegisters dropped faulted restarted restart iaIn commandIn numIn addressIn framed commandKnown kindOf kindIn namedIn isAcknowledge carried lengthRight formRight lrcRight rangeRight changeAllowed changeRight orderIn asked response iaOf shown interrogated bodyOf pended echoed newByte changed appliedTo applied acknowledged obeyed datalinkReply askable asAsked changeFrame acknowledgeFrame interrogateFrame same echo isEcho isResponse allAsked confirms move stepOf replyOf closing afterStep afterArrival afterRestart called run
 computed = tt
 
 -- the premise word for word, as a test

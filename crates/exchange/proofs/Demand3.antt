@@ -10,7 +10,7 @@ use native.Mathlib.Omega.{arith}
 use lib.ListN.{getD}
 use Rattle.wire.specs.Choose.{choose}
 use Rattle.card.specs.Layout.{Card}
-use Rattle.card.specs.Tables.{memoryStart}
+use Rattle.card.specs.Change.{memoryStart}
 use Rattle.master.specs.Request.{Request, namedBy, asAsked, askable}
 use Rattle.master.specs.Accepted.{Accepted}
 use Rattle.master.specs.Step.{saysOf}

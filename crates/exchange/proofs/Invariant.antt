@@ -9,7 +9,7 @@ use Prim.Native.Nat.{ℕ, _+_, _-_, _≤_, _<_}
 use native.Mathlib.Omega.{arith}
 use lib.ListN.{length, getD}
 use Rattle.card.specs.Layout.{Card, kindAt}
-use Rattle.card.specs.Tables.{memoryStart, writableStart}
+use Rattle.card.specs.Change.{memoryStart, writableStart}
 use Rattle.datalink.specs.Answer.{response}
 use Rattle.master.specs.Request.{Request, namedBy, asAsked}
 use Rattle.master.specs.Frames.{body, changeFrame, acknowledgeFrame, interrogateFrame, echo}

@@ -11,16 +11,18 @@ use lib.Bits.{bitAnd, bitOr}
 use lib.Dec.{leb, ltb, eqb}
 use lib.ListN.{length, getD, drop, set, replicate, List·getD-append}
 use lib.Seq.{getD-drop, getD-append-add, getD-set-same, getD-set-other}
+use Rattle.wire.proofs.Tests.{and-true}
 use Rattle.wire.specs.Choose.{choose}
 use Rattle.wire.specs.Buffer.{put, overlay}
 use Rattle.wire.proofs.Cases.{by-choice}
 use Rattle.card.specs.Numbers.{cardUnfit, bufferShort, rangeUnknown, imageLength, imagePadding, answered}
 use Rattle.card.specs.Layout.{Card, channels, kindAt}
-use Rattle.card.specs.Tables.{memoryStart, memoryEnd, writableStart, inMemory, namesReadOnly, noChange, addressOf, fit}
+use Rattle.card.specs.Change.{memoryStart, memoryEnd, writableStart, inMemory, namesReadOnly, noChange, addressOf}
+use Rattle.card.specs.Fitness.{fit}
 use Rattle.card.specs.Probe.{faultCode}
 use Rattle.card.specs.Reply.{Reply, silent, sent, shell, guarded, roomLeast}
 use Rattle.card.specs.Entries.{dropped, faulted, restarted, restart, withCode, setCode}
-use Rattle.card.proofs.Facts.{and-true, fit-facts}
+use Rattle.card.proofs.Facts.{fit-facts}
 use Rattle.datalink.specs.Answer.{newByte, changed, appliedTo, applied, pended}
 use Rattle.datalink.proofs.Staying.{length-changed}
 use Rattle.lecom.specs.Answer.{lecomReply}

@@ -5,10 +5,12 @@ use mathlib.Core.List.{List, [], _∷_, _++_}
 use Prim.Native.Nat.{ℕ, zero, suc, _-_}
 use native.Mathlib.Omega.{arith}
 use lib.ListN.{set}
+use Rattle.wire.proofs.Tests.{and-true}
 use Rattle.wire.specs.Word.{wordValues}
 use Rattle.card.specs.Layout.{Card, cardOf, iaAt}
-use Rattle.card.specs.Tables.{inSpan, allIn, fit}
-use Rattle.card.proofs.Facts.{and-true, span-most}
+use Rattle.card.specs.Fitness.{inSpan, fit}
+use Rattle.card.specs.Scans.{allIn}
+use Rattle.card.proofs.Facts.{span-most}
 use Rattle.image.specs.Form.{run as entries, savedForm}
 use Rattle.image.specs.Saved.{fieldOf, wordOf, values, replaced, imageOf, restored}
 use Rattle.image.proofs.Words.{Words}

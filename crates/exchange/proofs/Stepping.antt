@@ -9,11 +9,11 @@ use Prim.Native.Nat.{ℕ, zero, suc, _+_, _-_, _<_}
 use native.Mathlib.Omega.{arith}
 use lib.Dec.{leb, ltb, eqb}
 use lib.ListN.{length, getD}
+use Rattle.wire.proofs.Tests.{and-true}
 use Rattle.wire.specs.Choose.{choose}
 use Rattle.card.specs.Numbers.{valueOutside, bufferShort}
 use Rattle.card.specs.Layout.{Card}
-use Rattle.card.specs.Tables.{memoryStart}
-use Rattle.card.proofs.Facts.{and-true}
+use Rattle.card.specs.Change.{memoryStart}
 use Rattle.datalink.specs.Frame.{framed, longest, isAcknowledge}
 use Rattle.datalink.specs.Answer.{response}
 use Rattle.master.specs.Request.{Request, namedBy, asAsked, askable}

@@ -8,7 +8,7 @@ use lib.Dec.{leb}
 use lib.ListN.{length, getD}
 use Rattle.wire.specs.Choose.{choose}
 use Rattle.card.specs.Layout.{Card}
-use Rattle.card.specs.Tables.{memoryStart, memoryEnd, writableStart, inMemory, namesReadOnly}
+use Rattle.card.specs.Change.{memoryStart, memoryEnd, writableStart, inMemory, namesReadOnly}
 use Rattle.master.specs.Request.{Request, namedBy, asAsked}
 use Rattle.master.specs.declared.Verdict.{Verdict}
 use Rattle.master.specs.declared.Verdict.the-variants.{Open, Done}

@@ -8,7 +8,7 @@ use lib.ListN.{length}
 use Rattle.wire.specs.Choose.{choose}
 use Rattle.card.specs.Numbers.{answered, foreignAddress}
 use Rattle.card.specs.Layout.{Card}
-use Rattle.card.specs.Tables.{noChange}
+use Rattle.card.specs.Change.{noChange}
 use Rattle.card.specs.Entries.{restart}
 use Rattle.card.specs.Reply.{Reply}
 use Rattle.datalink.specs.Frame.{kindIn, isAcknowledge}

@@ -12,7 +12,7 @@ use lib.Seq.{getD-set-other}
 use Rattle.wire.specs.Choose.{choose}
 use Rattle.wire.proofs.Cases.{by-choice}
 use Rattle.card.specs.Layout.{Card, channels}
-use Rattle.card.specs.Tables.{fit}
+use Rattle.card.specs.Fitness.{fit}
 use Rattle.card.specs.Probe.{faultCode, readingOf}
 use Rattle.card.specs.declared.probe.Reading.{Reading}
 use Rattle.card.proofs.Probes.{fault-read}

@@ -29,14 +29,20 @@ pub extern "C" fn nk_set_code(
     channel: u32,
     code: u8,
 ) -> u8
-    ensures { λ r. ⌜ Did (setCode (cardOf (now (words .entry)) (now (memory .entry)) (now (pending .entry))) channel code) r (now (words .entry)) (now (memory .exit)) (now (pending .entry)) ⌝ }
+    ensures { λ r.
+        let before = cardOf (now (words .entry)) (now (memory .entry)) (now (pending .entry)) in
+        let after = cardOf (now (words .entry)) (now (memory .exit)) (now (pending .entry)) in
+        ⌜ Did (setCode before channel code) r after ⌝ }
 {
     card::entries::set_code(words, memory, pending, channel, code)
 }
 
 #[no_mangle]
 pub extern "C" fn nk_restart(words: &mut [u32], memory: &mut [u8], pending: &mut [u8]) -> u8
-    ensures { λ r. ⌜ Did (restart (cardOf (now (words .entry)) (now (memory .entry)) (now (pending .entry)))) r (now (words .exit)) (now (memory .exit)) (now (pending .exit)) ⌝ }
+    ensures { λ r.
+        let before = cardOf (now (words .entry)) (now (memory .entry)) (now (pending .entry)) in
+        let after = cardOf (now (words .exit)) (now (memory .exit)) (now (pending .exit)) in
+        ⌜ Did (restart before) r after ⌝ }
 {
     card::entries::restart_card(words, memory, pending)
 }
@@ -88,7 +94,10 @@ pub extern "C" fn nk_datalink(
     answer: &mut [u8],
     len: &mut usize,
 ) -> u8
-    ensures { λ r. ⌜ Gave (datalinkReply (cardOf (now (words .entry)) (now (memory .entry)) (now (pending .entry))) (length (now (answer .entry))) (now (frame .entry))) (now (answer .entry)) r (now (len .exit)) (now (words .entry)) (now (memory .exit)) (now (pending .exit)) (now (answer .exit)) ⌝ }
+    ensures { λ r.
+        let before = cardOf (now (words .entry)) (now (memory .entry)) (now (pending .entry)) in
+        let after = cardOf (now (words .entry)) (now (memory .exit)) (now (pending .exit)) in
+        ⌜ Gave (datalinkReply before (length (now (answer .entry))) (now (frame .entry))) (now (answer .entry)) (record { number = r; len = now (len .exit) }) after (now (answer .exit)) ⌝ }
 {
     let given = datalink::datalink(words, memory, pending, frame, answer);
     hand_over(given, len)
@@ -103,7 +112,10 @@ pub extern "C" fn nk_lecom(
     answer: &mut [u8],
     len: &mut usize,
 ) -> u8
-    ensures { λ r. ⌜ Gave (lecomReply (cardOf (now (words .entry)) (now (memory .entry)) (now (pending .entry))) (length (now (answer .entry))) (now (frame .entry))) (now (answer .entry)) r (now (len .exit)) (now (words .exit)) (now (memory .entry)) (now (pending .entry)) (now (answer .exit)) ⌝ }
+    ensures { λ r.
+        let before = cardOf (now (words .entry)) (now (memory .entry)) (now (pending .entry)) in
+        let after = cardOf (now (words .exit)) (now (memory .entry)) (now (pending .entry)) in
+        ⌜ Gave (lecomReply before (length (now (answer .entry))) (now (frame .entry))) (now (answer .entry)) (record { number = r; len = now (len .exit) }) after (now (answer .exit)) ⌝ }
 {
     let given = lecom::lecom(words, memory, pending, frame, answer);
     hand_over(given, len)
@@ -118,7 +130,10 @@ pub extern "C" fn nk_love(
     answer: &mut [u8],
     len: &mut usize,
 ) -> u8
-    ensures { λ r. ⌜ Gave (loveReply (cardOf (now (words .entry)) (now (memory .entry)) (now (pending .entry))) (length (now (answer .entry))) (now (frame .entry))) (now (answer .entry)) r (now (len .exit)) (now (words .exit)) (now (memory .entry)) (now (pending .entry)) (now (answer .exit)) ⌝ }
+    ensures { λ r.
+        let before = cardOf (now (words .entry)) (now (memory .entry)) (now (pending .entry)) in
+        let after = cardOf (now (words .exit)) (now (memory .entry)) (now (pending .entry)) in
+        ⌜ Gave (loveReply before (length (now (answer .entry))) (now (frame .entry))) (now (answer .entry)) (record { number = r; len = now (len .exit) }) after (now (answer .exit)) ⌝ }
 {
     let given = love::love(words, memory, pending, frame, answer);
     hand_over(given, len)
@@ -133,7 +148,10 @@ pub extern "C" fn nk_lucid(
     answer: &mut [u8],
     len: &mut usize,
 ) -> u8
-    ensures { λ r. ⌜ Gave (lucidReply (cardOf (now (words .entry)) (now (memory .entry)) (now (pending .entry))) (length (now (answer .entry))) (now (frame .entry))) (now (answer .entry)) r (now (len .exit)) (now (words .exit)) (now (memory .entry)) (now (pending .entry)) (now (answer .exit)) ⌝ }
+    ensures { λ r.
+        let before = cardOf (now (words .entry)) (now (memory .entry)) (now (pending .entry)) in
+        let after = cardOf (now (words .exit)) (now (memory .entry)) (now (pending .entry)) in
+        ⌜ Gave (lucidReply before (length (now (answer .entry))) (now (frame .entry))) (now (answer .entry)) (record { number = r; len = now (len .exit) }) after (now (answer .exit)) ⌝ }
 {
     let given = lucid::lucid(words, memory, pending, frame, answer);
     hand_over(given, len)
@@ -147,7 +165,10 @@ pub extern "C" fn nk_write_image(
     image: &mut [u8],
     len: &mut usize,
 ) -> u8
-    ensures { λ r. ⌜ Gave (writeImage (cardOf (now (words .entry)) (now (memory .entry)) (now (pending .entry))) (length (now (image .entry)))) (now (image .entry)) r (now (len .exit)) (now (words .entry)) (now (memory .entry)) (now (pending .entry)) (now (image .exit)) ⌝ }
+    ensures { λ r.
+        let before = cardOf (now (words .entry)) (now (memory .entry)) (now (pending .entry)) in
+        let after = cardOf (now (words .entry)) (now (memory .entry)) (now (pending .entry)) in
+        ⌜ Gave (writeImage before (length (now (image .entry)))) (now (image .entry)) (record { number = r; len = now (len .exit) }) after (now (image .exit)) ⌝ }
 {
     let given = image::write_image(words, memory, pending, image);
     hand_over(given, len)
@@ -160,7 +181,10 @@ pub extern "C" fn nk_read_image(
     pending: &[u8],
     image: &[u8],
 ) -> u8
-    ensures { λ r. ⌜ Did (readImage (cardOf (now (words .entry)) (now (memory .entry)) (now (pending .entry))) (now (image .entry))) r (now (words .exit)) (now (memory .entry)) (now (pending .entry)) ⌝ }
+    ensures { λ r.
+        let before = cardOf (now (words .entry)) (now (memory .entry)) (now (pending .entry)) in
+        let after = cardOf (now (words .exit)) (now (memory .entry)) (now (pending .entry)) in
+        ⌜ Did (readImage before (now (image .entry))) r after ⌝ }
 {
     image::read_image(words, memory, pending, image)
 }

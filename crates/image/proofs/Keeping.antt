@@ -7,7 +7,7 @@ use native.Mathlib.Omega.{arith}
 use Rattle.wire.proofs.Cases.{by-choice}
 use Rattle.card.specs.Layout.{Card}
 use Rattle.card.specs.Numbers.{done, foreignAddress}
-use Rattle.card.specs.Tables.{fit}
+use Rattle.card.specs.Fitness.{fit}
 use Rattle.card.specs.Reply.{Reply, silent, Keeps}
 use Rattle.card.proofs.Replies.{keeps-silent, shell-keeps}
 use Rattle.image.specs.Form.{imageSize}

@@ -10,7 +10,7 @@ use lib.ListN.{length}
 use Rattle.wire.proofs.Cases.{yes, no}
 use Rattle.card.specs.Numbers.{done, cardUnfit, imageLength, imagePadding}
 use Rattle.card.specs.Layout.{Card}
-use Rattle.card.specs.Tables.{fit}
+use Rattle.card.specs.Fitness.{fit}
 use Rattle.card.specs.Reply.{Reply, silent}
 use Rattle.image.specs.Form.{imageSize}
 use Rattle.image.specs.Saved.{paddingOf, restored}

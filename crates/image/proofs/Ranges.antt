@@ -10,14 +10,16 @@ use borrow.Author.Tests.{lt-ltb, le-ltb, le-leb, lt-leb, eq-eqb, ne-eqb, eqb-tru
 use lib.Dec.{eqb, ltb, leb}
 use lib.ListN.{length, getD, drop, set, length-take, length-drop, length-set}
 use lib.Seq.{getD-take, getD-drop, getD-set-same, getD-set-other}
+use Rattle.wire.proofs.Tests.{and-true, and-true-right}
 use Rattle.wire.specs.Choose.{choose}
 use Rattle.wire.specs.Word.{minus}
 use Rattle.wire.proofs.Cases.{yes as taken, no as left}
 use Rattle.wire.specs.Buffer.{part}
 use Rattle.card.specs.Layout.{Card, cardOf, iaAt, lecomAddressAt, loveAddressAt, loveAt, demandsAt, parametersAt, bufferAt, wordCount, memorySize, pendingSize}
-use Rattle.card.specs.Tables.{inSpan, allIn, lecomRight, loveRight, fitAddresses, fitParameters, fitWords, fitPending, fit, iaMost, loveLeast, loveMost, demandMost, cycleLeast, cycleMost, floorMost, registerMost}
-use Rattle.card.proofs.Facts.{and-true, part-at}
-use Rattle.card.proofs.Scans.{and-true-right}
+use Rattle.card.specs.Change.{fitPending}
+use Rattle.card.specs.Fitness.{inSpan, lecomRight, loveRight, fitWords, fit, iaMost, loveLeast, loveMost, demandMost, cycleLeast, cycleMost, floorMost, registerMost}
+use Rattle.card.specs.Scans.{allIn, fitAddresses, fitParameters}
+use Rattle.card.proofs.Facts.{part-at}
 use Rattle.image.specs.declared.form.Entry.{Entry}
 use Rattle.image.specs.Form.{savedForm}
 use Rattle.image.specs.Saved.{wordOf, values, replaced, entriesOf, restored}

@@ -9,6 +9,7 @@ use native.Mathlib.Omega.{arith}
 use borrow.Author.Tests.{lt-leb, leb-true}
 use lib.Dec.{leb}
 use lib.ListN.{length, getD}
+use Rattle.wire.proofs.Tests.{and-true}
 use Rattle.wire.specs.Choose.{choose}
 use Rattle.wire.specs.Word.{wordValues, minus}
 use Rattle.bits.specs.Bits.{putField}
@@ -17,10 +18,10 @@ use Rattle.bits.proofs.Reading.{Bytes}
 use Rattle.bits.proofs.Writing.{putField-own}
 use Rattle.bits.proofs.Sequences.{Fit, none, more, fields-fit, fields-putFields, putFields-own}
 use Rattle.card.specs.Numbers.{done}
-use Rattle.card.specs.Layout.{Card, savedAt, loveAt, wordCount}
-use Rattle.card.specs.Tables.{inSpan, iaMost, lecomLeast, lecomMost, loveAddressMost, loveMost, registerMost, fit}
+use Rattle.card.specs.Layout.{Card, savedRegistersAt, loveAt, wordCount}
+use Rattle.card.specs.Fitness.{inSpan, iaMost, lecomLeast, lecomMost, loveAddressMost, loveMost, registerMost, fit}
 use Rattle.card.specs.Reply.{Reply, silent}
-use Rattle.card.proofs.Facts.{and-true, fit-facts}
+use Rattle.card.proofs.Facts.{fit-facts}
 use Rattle.image.specs.declared.form.Entry.{Entry}
 use Rattle.image.specs.Form.{run, savedForm, registerBias, loveBias, holds, widths, used, padding, imageSize}
 use Rattle.image.specs.Saved.{fieldOf, values, replaced, imageOf, entriesOf, paddingOf, restored}
@@ -57,7 +58,7 @@ fit-form (e ∷ form) ws h = more (h 0 (omega arith)) (fit-form form ws (λ k l.
 past-addresses : (ws : List ℕ) → Words ws → InRange ws → (k : ℕ) → table.firstRegister ≤ k → k < table.entryCount → Dec (k < table.firstParameter) → Dec (k < table.firstLove) → FitsAt savedForm ws k
 unfolding fieldOf
 past-addresses ws hw h k g l (yes a) b =
-    let j = savedAt + (k - table.firstRegister) in
+    let j = savedRegistersAt + (k - table.firstRegister) in
     let x = biased registerBias registerMost (getD ws j 0) (omega arith) (hw j) (at-register j (getD ws j 0) (omega arith) ∙ h j (omega arith)) in
     rw (table.register-at k g a) (omega arith)
 past-addresses ws hw h k g l (no a) (yes b) = rw (table.parameter-at k (omega arith) b) (omega arith)

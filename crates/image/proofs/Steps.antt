@@ -7,10 +7,10 @@ use native.Mathlib.Numerals.{add-one}
 use native.Mathlib.Omega.{arith}
 use lib.ListN.{length, getD, drop, set}
 use lib.Seq.{drop-cons}
+use Rattle.wire.proofs.Tests.{and-assoc}
 use Rattle.bits.specs.Bits.{field, putField, Within, widest}
 use Rattle.bits.specs.Fields.{widthOf, fields, putFields}
 use Rattle.card.specs.Layout.{wordCount}
-use Rattle.card.proofs.Scans.{and-assoc}
 use Rattle.image.specs.declared.form.Entry.{Entry}
 use Rattle.image.specs.Form.{run, savedForm, holds, widths, used, imageSize}
 use Rattle.image.specs.Saved.{fieldOf, wordOf, values, replaced}

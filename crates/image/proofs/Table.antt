@@ -6,7 +6,7 @@ use native.Mathlib.Nat.{not-suc-le-zero, le-of-suc-le-suc}
 use native.Mathlib.Omega.{arith}
 use lib.ListN.{length, getD, List·getD-append}
 use lib.Seq.{getD-append-add}
-use Rattle.card.specs.Layout.{savedAt, registers, keptAt, parameterCount, loveAt, loveCount}
+use Rattle.card.specs.Layout.{savedRegistersAt, registers, savedParametersAt, parameterCount, loveAt, loveCount}
 use Rattle.bits.specs.Fields.{widthOf}
 use Rattle.image.specs.declared.form.Entry.{Entry}
 use Rattle.image.specs.Form.{entryOf, run, savedForm, widths, used, registerWidth, registerBias, parameterWidth, loveWidth, loveBias}
@@ -53,33 +53,33 @@ form-used = refl
 
 -- the entries after the three addresses
 abbrev runs : List Entry
-runs = run savedAt registers registerWidth registerBias ++ (run keptAt parameterCount parameterWidth 0 ++ run loveAt loveCount loveWidth loveBias)
+runs = run savedRegistersAt registers registerWidth registerBias ++ (run savedParametersAt parameterCount parameterWidth 0 ++ run loveAt loveCount loveWidth loveBias)
 
 past-addresses : (k : ℕ) → firstRegister ≤ k → getD savedForm k none ≡ getD runs (k - firstRegister) none
 unfolding savedForm run
 past-addresses k h = let e : k ≡ suc (suc (suc (k - firstRegister))) = omega arith in ap (λ (n : ℕ). getD savedForm n none) e
 
-pub register-at : (k : ℕ) → firstRegister ≤ k → k < firstParameter → getD savedForm k none ≡ entryOf (savedAt + (k - firstRegister)) registerWidth registerBias
+pub register-at : (k : ℕ) → firstRegister ≤ k → k < firstParameter → getD savedForm k none ≡ entryOf (savedRegistersAt + (k - firstRegister)) registerWidth registerBias
 register-at k a b =
     past-addresses k a
-    ∙ List·getD-append (run savedAt registers registerWidth registerBias) _ none (k - firstRegister) (omega (arith, length-run savedAt registers registerWidth registerBias))
-    ∙ run-at savedAt registers registerWidth registerBias (k - firstRegister) (omega arith)
+    ∙ List·getD-append (run savedRegistersAt registers registerWidth registerBias) _ none (k - firstRegister) (omega (arith, length-run savedRegistersAt registers registerWidth registerBias))
+    ∙ run-at savedRegistersAt registers registerWidth registerBias (k - firstRegister) (omega arith)
 
-past-registers : (k : ℕ) → firstParameter ≤ k → getD savedForm k none ≡ getD (run keptAt parameterCount parameterWidth 0 ++ run loveAt loveCount loveWidth loveBias) (k - firstParameter) none
+past-registers : (k : ℕ) → firstParameter ≤ k → getD savedForm k none ≡ getD (run savedParametersAt parameterCount parameterWidth 0 ++ run loveAt loveCount loveWidth loveBias) (k - firstParameter) none
 past-registers k h =
-    let e : k - firstRegister ≡ length (run savedAt registers registerWidth registerBias) + (k - firstParameter) = omega (arith, length-run savedAt registers registerWidth registerBias) in
-    past-addresses k (omega arith) ∙ ap (λ (n : ℕ). getD runs n none) e ∙ getD-append-add (run savedAt registers registerWidth registerBias) _ (k - firstParameter) none
+    let e : k - firstRegister ≡ length (run savedRegistersAt registers registerWidth registerBias) + (k - firstParameter) = omega (arith, length-run savedRegistersAt registers registerWidth registerBias) in
+    past-addresses k (omega arith) ∙ ap (λ (n : ℕ). getD runs n none) e ∙ getD-append-add (run savedRegistersAt registers registerWidth registerBias) _ (k - firstParameter) none
 
-pub parameter-at : (k : ℕ) → firstParameter ≤ k → k < firstLove → getD savedForm k none ≡ entryOf (keptAt + (k - firstParameter)) parameterWidth 0
+pub parameter-at : (k : ℕ) → firstParameter ≤ k → k < firstLove → getD savedForm k none ≡ entryOf (savedParametersAt + (k - firstParameter)) parameterWidth 0
 parameter-at k a b =
     past-registers k a
-    ∙ List·getD-append (run keptAt parameterCount parameterWidth 0) _ none (k - firstParameter) (omega (arith, length-run keptAt parameterCount parameterWidth 0))
-    ∙ run-at keptAt parameterCount parameterWidth 0 (k - firstParameter) (omega arith)
+    ∙ List·getD-append (run savedParametersAt parameterCount parameterWidth 0) _ none (k - firstParameter) (omega (arith, length-run savedParametersAt parameterCount parameterWidth 0))
+    ∙ run-at savedParametersAt parameterCount parameterWidth 0 (k - firstParameter) (omega arith)
 
 pub love-at : (k : ℕ) → firstLove ≤ k → k < entryCount → getD savedForm k none ≡ entryOf (loveAt + (k - firstLove)) loveWidth loveBias
 love-at k a b =
-    let e : k - firstParameter ≡ length (run keptAt parameterCount parameterWidth 0) + (k - firstLove) = omega (arith, length-run keptAt parameterCount parameterWidth 0) in
+    let e : k - firstParameter ≡ length (run savedParametersAt parameterCount parameterWidth 0) + (k - firstLove) = omega (arith, length-run savedParametersAt parameterCount parameterWidth 0) in
     past-registers k (omega arith)
-    ∙ ap (λ (n : ℕ). getD (run keptAt parameterCount parameterWidth 0 ++ run loveAt loveCount loveWidth loveBias) n none) e
-    ∙ getD-append-add (run keptAt parameterCount parameterWidth 0) _ (k - firstLove) none
+    ∙ ap (λ (n : ℕ). getD (run savedParametersAt parameterCount parameterWidth 0 ++ run loveAt loveCount loveWidth loveBias) n none) e
+    ∙ getD-append-add (run savedParametersAt parameterCount parameterWidth 0) _ (k - firstLove) none
     ∙ run-at loveAt loveCount loveWidth loveBias (k - firstLove) (omega arith)

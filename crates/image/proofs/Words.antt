@@ -11,10 +11,10 @@ use lib.Dec.{eqb, ltb, leb}
 use lib.ListN.{length, getD, set, length-set}
 use lib.Seq.{getD-set-same, getD-set-other}
 use lib.Pow.{pow-mono}
+use Rattle.wire.proofs.Tests.{and-true}
 use Rattle.wire.specs.Word.{wordValues}
 use Rattle.bits.specs.Bits.{widest}
 use Rattle.bits.proofs.Sequences.{Fit, none, more}
-use Rattle.card.proofs.Facts.{and-true}
 use Rattle.image.specs.declared.form.Entry.{Entry}
 use Rattle.image.specs.Form.{entryOf, holds, widths}
 use Rattle.image.specs.Saved.{fieldOf, wordOf, values, replaced}

@@ -7,7 +7,7 @@ use lib.ListN.{length}
 use Rattle.wire.specs.Choose.{choose}
 use Rattle.card.specs.Numbers.{answered, done, cardUnfit, imageLength, imagePadding}
 use Rattle.card.specs.Layout.{Card}
-use Rattle.card.specs.Tables.{fit}
+use Rattle.card.specs.Fitness.{fit}
 use Rattle.card.specs.Reply.{Reply, silent, sent, shell}
 use Rattle.image.specs.Form.{imageSize}
 use Rattle.image.specs.Saved.{imageOf, paddingOf, restored}

@@ -4,8 +4,8 @@ use mathlib.Core.Bool.{Bool, false, _||_}
 use mathlib.Core.List.{List, [], _∷_, _++_}
 use lib.Dec.{eqb}
 use Rattle.bits.specs.Fields.{widthOf}
-use Rattle.card.specs.Layout.{iaAt, lecomAddressAt, loveAddressAt, savedAt, registers, keptAt, parameterCount, loveAt, loveCount}
-use Rattle.card.specs.Tables.{loveDepth, registerMost}
+use Rattle.card.specs.Layout.{iaAt, lecomAddressAt, loveAddressAt, savedRegistersAt, registers, savedParametersAt, parameterCount, loveAt, loveCount}
+use Rattle.card.specs.Fitness.{loveDepth, registerMost}
 use Rattle.image.specs.declared.form.Entry.{Entry}
 
 -- an entry: the word that it holds, the bits of its field, and what is added to the word there
@@ -51,8 +51,8 @@ savedForm =
     run iaAt 1 iaWidth 0
     ++ (run lecomAddressAt 1 lecomWidth 0
     ++ (run loveAddressAt 1 loveAddressWidth 0
-    ++ (run savedAt registers registerWidth registerBias
-    ++ (run keptAt parameterCount parameterWidth 0
+    ++ (run savedRegistersAt registers registerWidth registerBias
+    ++ (run savedParametersAt parameterCount parameterWidth 0
     ++ run loveAt loveCount loveWidth loveBias))))
 
 -- a table has an entry for word k

@@ -6,7 +6,7 @@ use lib.Dec.{leb, ltb, eqb}
 use Rattle.wire.specs.Choose.{choose}
 use Rattle.wire.specs.Word.{minus}
 use Rattle.card.specs.Layout.{iaAt, lecomAddressAt, loveAddressAt, demandsAt, parametersAt, bufferAt}
-use Rattle.card.specs.Tables.{inSpan, iaMost, lecomRight, loveRight, loveLeast, loveMost, demandMost, cycleLeast, cycleMost, floorMost, registerMost}
+use Rattle.card.specs.Fitness.{inSpan, iaMost, lecomRight, loveRight, loveLeast, loveMost, demandMost, cycleLeast, cycleMost, floorMost, registerMost}
 use Rattle.image.specs.declared.form.Entry.{Entry}
 use Rattle.image.specs.Saved.{wordOf}
 

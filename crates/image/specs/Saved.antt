@@ -5,7 +5,7 @@ use lib.ListN.{getD, set, replicate}
 use Rattle.wire.specs.Word.{wordValues, minus}
 use Rattle.bits.specs.Bits.{field}
 use Rattle.bits.specs.Fields.{fields, putFields}
-use Rattle.card.specs.Layout.{Card}
+use Rattle.card.specs.Layout.{Card, withWords}
 use Rattle.image.specs.declared.form.Entry.{Entry}
 use Rattle.image.specs.Form.{savedForm, widths, used, padding, imageSize}
 
@@ -42,4 +42,4 @@ paddingOf img = field img (used savedForm) padding
 
 -- "Reading replaces these entries only"
 unfoldable pub restored : Card → List ℕ → Card
-restored card img = record { words = replaced savedForm (card .words) (entriesOf img); memory = card .memory; pending = card .pending }
+restored card img = withWords card (replaced savedForm (card .words) (entriesOf img))

@@ -2,14 +2,14 @@
 use card::fitness::LOVE_DEPTH;
 use card::fitness::REGISTER_MOST;
 use card::layout::IA;
-use card::layout::KEPT;
 use card::layout::LECOM_ADDRESS;
 use card::layout::LOVE;
 use card::layout::LOVE_ADDRESS;
 use card::layout::LOVE_COUNT;
 use card::layout::PARAMETER_COUNT;
 use card::layout::REGISTERS;
-use card::layout::SAVED;
+use card::layout::SAVED_PARAMETERS;
+use card::layout::SAVED_REGISTERS;
 use std::num::wrapping_add_u32;
 use std::num::wrapping_sub_u32;
 ghost use mathlib.Core.Path.{_≡_};
@@ -84,14 +84,14 @@ pub fn entry_at(k: usize) -> Entry
     }
     if k < FIRST_PARAMETER {
         return Entry {
-            word: SAVED + (k - FIRST_REGISTER),
+            word: SAVED_REGISTERS + (k - FIRST_REGISTER),
             width: REGISTER_WIDTH,
             bias: REGISTER_BIAS,
         };
     }
     if k < FIRST_LOVE {
         return Entry {
-            word: KEPT + (k - FIRST_PARAMETER),
+            word: SAVED_PARAMETERS + (k - FIRST_PARAMETER),
             width: PARAMETER_WIDTH,
             bias: 0,
         };

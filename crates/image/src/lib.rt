@@ -1,6 +1,5 @@
 // The saved image: the entries that write and read it. Document 01, "The saved image".
 mod form;
-mod range;
 
 use crate::form::ENTRIES;
 use crate::form::IMAGE;
@@ -8,10 +7,10 @@ use crate::form::PADDING;
 use crate::form::entry_at;
 use crate::form::from_field;
 use crate::form::to_field;
-use crate::range::in_range;
 use bits::take_at;
 use bits::write_field;
 use card::Outcome;
+use card::fitness::in_range;
 use card::fitness::is_fit;
 use card::numbers::ANSWERED;
 use card::numbers::CARD_UNFIT;
@@ -58,7 +57,10 @@ fn pack(words: &[u32], image: &mut [u8])
 
 // Writes the image of a card: document 01's number, and the bytes written.
 pub fn write_image(words: &[u32], memory: &[u8], pending: &[u8], out: &mut [u8]) -> Outcome
-    ensures { λ r. ⌜ Gave (writeImage (cardOf (now (words .entry)) (now (memory .entry)) (now (pending .entry))) (length (now (out .entry)))) (now (out .entry)) (r .number) (r .len) (now (words .entry)) (now (memory .entry)) (now (pending .entry)) (now (out .exit)) ⌝ }
+    ensures { λ r.
+        let before = cardOf (now (words .entry)) (now (memory .entry)) (now (pending .entry)) in
+        let after = cardOf (now (words .entry)) (now (memory .entry)) (now (pending .entry)) in
+        ⌜ Gave (writeImage before (length (now (out .entry)))) (now (out .entry)) r after (now (out .exit)) ⌝ }
 {
     let number = card::stop_early(words, memory, pending, IMAGE, out.len());
     if number != ANSWERED {
@@ -115,7 +117,10 @@ fn restore(words: &mut [u32], image: &[u8])
 
 // Reads an image into a card: document 01's number.
 pub fn read_image(words: &mut [u32], memory: &[u8], pending: &[u8], image: &[u8]) -> u8
-    ensures { λ r. ⌜ Did (readImage (cardOf (now (words .entry)) (now (memory .entry)) (now (pending .entry))) (now (image .entry))) r (now (words .exit)) (now (memory .entry)) (now (pending .entry)) ⌝ }
+    ensures { λ r.
+        let before = cardOf (now (words .entry)) (now (memory .entry)) (now (pending .entry)) in
+        let after = cardOf (now (words .exit)) (now (memory .entry)) (now (pending .entry)) in
+        ⌜ Did (readImage before (now (image .entry))) r after ⌝ }
 {
     if !is_fit(words, memory, pending) {
         return CARD_UNFIT;

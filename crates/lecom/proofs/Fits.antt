@@ -9,6 +9,7 @@ use borrow.Author.Tests.{le-leb, ltb-true, ltb-false}
 use lib.Dec.{leb, ltb, eqb}
 use lib.ListN.{length, getD, drop, set, length-set}
 use lib.Seq.{take-set-le}
+use Rattle.wire.proofs.Tests.{or-true-right}
 use Rattle.wire.specs.Choose.{choose}
 use Rattle.wire.specs.Buffer.{put, part}
 use Rattle.wire.specs.Word.{minus}
@@ -18,11 +19,10 @@ use Rattle.figures.specs.Figure.{decimal, allFigures}
 use Rattle.figures.specs.Decimal.{valueOf}
 use Rattle.figures.specs.Signed.{minusChar, withSign, figuresOf, parsedOf}
 use Rattle.figures.specs.declared.Parsed.{Parsed}
-use Rattle.card.specs.Layout.{Card, registers, bufferAt, operationalAt, savedAt, wordCount}
-use Rattle.card.specs.Tables.{inSpan, fitWords, fit, registerMost}
+use Rattle.card.specs.Layout.{Card, registers, bufferAt, operationalAt, savedRegistersAt, wordCount}
+use Rattle.card.specs.Fitness.{inSpan, fitWords, fit, registerMost}
 use Rattle.card.specs.Reply.{onWords, roomLeast}
 use Rattle.card.proofs.Facts.{allIn-set, fit-tables, fit-words}
-use Rattle.card.proofs.Scans.{or-true-right}
 use Rattle.card.proofs.Changed.{registers-changed, length-copied, copied-fit}
 use Rattle.card.proofs.Staying.{IsFit, shell-fit, words-reply-fit}
 use Rattle.lecom.specs.Frame.{firstProbe, activate, isWrite, dataOf, dataRead, valueIn, orderIn, asked}
@@ -94,7 +94,7 @@ module _ (ws : List ℕ) (long : length ws ≡ wordCount) (fits : fitWords ws �
       by-choice Good (ltb code firstProbe) _ _
       (λ l. (length-set ws (bufferAt + code) value ∙ long, stored-fit code value (ltb-true code firstProbe l) h))
       (λ _. by-choice Good (eqb value 0) _ _ (λ _. (long, fits))
-      (λ _. by-choice Good (eqb code activate) _ _ (λ _. copied bufferAt operationalAt (omega arith) (omega arith) (omega arith) (omega arith)) (λ _. copied operationalAt savedAt (omega arith) (omega arith) (omega arith) (omega arith))))
+      (λ _. by-choice Good (eqb code activate) _ _ (λ _. copied bufferAt operationalAt (omega arith) (omega arith) (omega arith) (omega arith)) (λ _. copied operationalAt savedRegistersAt (omega arith) (omega arith) (omega arith) (omega arith))))
     where
       Good : List ℕ → Type 0
       Good words = (length words ≡ wordCount) × (fitWords words ≡ true)

@@ -10,13 +10,13 @@ use Rattle.wire.specs.Choose.{choose}
 use Rattle.wire.proofs.Cases.{by-choice}
 use Rattle.card.specs.Numbers.{frameForm, checkCharacter, rangeUnknown, valueOutside, readOnly}
 use Rattle.card.specs.Reply.{GaveWords, Answer, leaving, Told}
+use Rattle.card.proofs.Replies.{wrote-none, gave-leaving}
 use Rattle.lecom.specs.Frame.{shortest, lengthRight, isWrite, codeEnd, sizeRight, orderIn, asked}
 use Rattle.lecom.specs.Stages.{heard}
 use Rattle.lecom.specs.Answer.{quietly, obeyed}
 use Rattle.lecom.specs.declared.frame.Order.{Order}
 use Rattle.lecom.specs.declared.frame.Order.the-variants.{Unheard, Refused, Read, Write}
 use Rattle.lecom.proofs.Places.{size-holds, length-facts}
-use Rattle.lecom.proofs.Writes.{wrote-none}
 
 -- what holds of every order that a frame can be: of a refusal with no byte; of any other, from what its answer needs of the frame; and of what a
 -- frame of the right size asks
@@ -64,10 +64,6 @@ held f =
 -- the same, of an order known under its name
 pub known : (address : ℕ) (f : List ℕ) (o : Order) → o ≡ asked address f → Held f o
 known address f o e = subst (Held f) (sym e) (held f address)
-
--- an answer that was sent, and these words left
-pub gave-leaving : (words : List ℕ) (answer : Answer) (out : List ℕ) {number len : ℕ} {out′ : List ℕ} → Told answer out number len out′ → GaveWords (leaving words answer) out number len words out′
-gave-leaving words answer out s = record { numbered = s .numbered; measured = s .wrote .measured; written = s .wrote .written; worded = refl }
 
 -- a reply to an order, known under another name
 pub gave-order : (words memory f out : List ℕ) {number len : ℕ} {words′ out′ : List ℕ} (o p : Order) → o ≡ p → GaveWords (obeyed words memory f o) out number len words′ out′

@@ -9,10 +9,10 @@ use lib.Bits.{bitXor}
 use lib.Dec.{leb}
 use lib.ListN.{length, getD, drop}
 use lib.Seq.{drop-cons}
+use Rattle.wire.proofs.Tests.{and-true}
 use Rattle.wire.specs.Choose.{choose}
 use Rattle.wire.proofs.Cases.{by-choice}
 use Rattle.figures.proofs.Characters.{pair-at-most}
-use Rattle.card.proofs.Facts.{and-true}
 use Rattle.lecom.specs.Frame.{isWrite, codeStart, isExtended, hexStart, codeEnd, sizeRight, pairIn, xorFrom, shortest, longest, lengthRight}
 
 -- the places of a frame's code, in order

@@ -12,31 +12,10 @@ use Rattle.figures.specs.Signed.{textOf, longestText}
 use Rattle.figures.proofs.Texts.{text-length}
 use Rattle.card.specs.Numbers.{answered, done}
 use Rattle.card.specs.Reply.{Wrote, Answer, Told}
+use Rattle.card.proofs.Replies.{wrote-none, wrote-one, wrote-set, wrote-put, told-as}
 use Rattle.lecom.specs.Frame.{stx, etx, collective, codeStart, codeEnd, codeOf, bccOf}
 use Rattle.lecom.specs.Answer.{valueBody, valueBytes, refusalBytes, doneBy, refusedBy}
 use Rattle.lecom.proofs.Places.{placed}
-
-module _ (bytes out : List ℕ) {len : ℕ} {out′ : List ℕ} (w : Wrote bytes out len out′) where
-  -- a byte written after the answer so far
-  pub wrote-set : (x : ℕ) → len < length out → Wrote (bytes ++ (x ∷ [])) out (len + 1) (set out′ len x)
-  wrote-set x h =
-      let l : length bytes < length out = omega (arith, w .measured) in
-      record {
-        measured = simp length-append (omega (arith, w .measured));
-        written = rw (w .written, w .measured) (overlay-set bytes out x l);
-      }
-
-  -- a list written after the answer so far
-  pub wrote-put : (d : List ℕ) → Wrote (bytes ++ d) out (len + length d) (put out′ len d)
-  wrote-put d =
-      record {
-        measured = simp length-append (omega (arith, w .measured));
-        written = rw (w .written, w .measured) (overlay-put bytes d out);
-      }
-
--- the first byte
-pub wrote-one : (x : ℕ) (out : List ℕ) → 0 < length out → Wrote (x ∷ []) out 1 (set out 0 x)
-wrote-one x out h = record { measured = refl; written = overlay-sets (x ∷ []) out h }
 
 -- a code is as long as its places are apart, and has at most seven characters
 pub code-length : (f : List ℕ) → codeEnd f ≤ length f → length (codeOf f) ≡ codeEnd f - codeStart f
@@ -75,28 +54,21 @@ wrote-value f out value at k bcc out₁ out₂ w n p e h =
     let y : bcc ≡ bccOf (valueBody f value) = e ∙ ap bccOf (bcc-over f out value (at + k + 1) _ x) in
     rw y (wrote-set (stx ∷ valueBody f value) out x (bccOf (valueBody f value)) h)
 
--- nothing was written
-pub wrote-none : (out : List ℕ) → Wrote [] out 0 out
-wrote-none out = record { measured = refl; written = sym (overlay-none out) }
-
-pub sent-as : {out : List ℕ} {number len : ℕ} {out′ : List ℕ} (a b : Answer) → a ≡ b → Told a out number len out′ → Told b out number len out′
-sent-as {out} {number} {len} {out′} a b e = subst (λ (x : Answer). Told x out number len out′) e
-
 -- a frame to a collective address: no byte
 pub done-quiet : (f bytes out : List ℕ) → collective f ≡ true → Told (doneBy f bytes) out done 0 out
 unfolding doneBy
-done-quiet f bytes out h = sent-as _ _ (yes _ _ _ _ h refl) (record { numbered = refl; wrote = wrote-none out })
+done-quiet f bytes out h = told-as _ _ (yes _ _ _ _ h refl) (record { numbered = refl; wrote = wrote-none out })
 
 pub refused-quiet : (f : List ℕ) (number : ℕ) (out : List ℕ) → collective f ≡ true → Told (refusedBy f number) out number 0 out
 unfolding refusedBy
-refused-quiet f number out h = sent-as _ _ (yes _ _ _ _ h refl) (record { numbered = refl; wrote = wrote-none out })
+refused-quiet f number out h = told-as _ _ (yes _ _ _ _ h refl) (record { numbered = refl; wrote = wrote-none out })
 
 -- a frame to the unit's own: the bytes
 pub done-sent : (f bytes out : List ℕ) {len : ℕ} {out′ : List ℕ} → collective f ≡ false → Wrote bytes out len out′ → Told (doneBy f bytes) out answered len out′
 unfolding doneBy
-done-sent f bytes out h w = sent-as _ _ (no _ _ _ _ h refl) (record { numbered = refl; wrote = w })
+done-sent f bytes out h w = told-as _ _ (no _ _ _ _ h refl) (record { numbered = refl; wrote = w })
 
 pub refused-sent : (f : List ℕ) (number : ℕ) (out : List ℕ) {len : ℕ} {out′ : List ℕ} → collective f ≡ false → Wrote (refusalBytes f number) out len out′
     → Told (refusedBy f number) out number len out′
 unfolding refusedBy
-refused-sent f number out h w = sent-as _ _ (no _ _ _ _ h refl) (record { numbered = refl; wrote = w })
+refused-sent f number out h w = told-as _ _ (no _ _ _ _ h refl) (record { numbered = refl; wrote = w })

@@ -8,7 +8,7 @@ use Rattle.wire.specs.Choose.{choose}
 use Rattle.wire.specs.Buffer.{part, put}
 use Rattle.figures.specs.Signed.{textOf}
 use Rattle.card.specs.Numbers.{answered, done, rangeUnknown, probeFault}
-use Rattle.card.specs.Layout.{Card, lecomAddressAt, bufferAt, operationalAt, savedAt}
+use Rattle.card.specs.Layout.{Card, lecomAddressAt, bufferAt, operationalAt, savedRegistersAt}
 use Rattle.card.specs.Probe.{readingOf}
 use Rattle.card.specs.declared.probe.Reading.{Reading}
 use Rattle.card.specs.declared.probe.Reading.the-variants.{Temperature, Fault}
@@ -62,7 +62,7 @@ unfoldable pub activated : List ℕ → List ℕ
 activated words = put words operationalAt (part words bufferAt operationalAt)
 
 unfoldable pub stored : List ℕ → List ℕ
-stored words = put words savedAt (part words operationalAt savedAt)
+stored words = put words savedRegistersAt (part words operationalAt savedRegistersAt)
 
 -- what a write makes of the words: "A write goes to the buffer"; ACTIVATE and STORE act on a value of 1
 unfoldable pub written : List ℕ → ℕ → ℕ → List ℕ

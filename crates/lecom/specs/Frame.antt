@@ -15,7 +15,7 @@ use Rattle.figures.specs.declared.Parsed.{Parsed}
 use Rattle.figures.specs.declared.Parsed.the-variants.{Value, Wrong}
 use Rattle.card.specs.Numbers.{foreignAddress, frameForm, checkCharacter, rangeUnknown, valueOutside, readOnly}
 use Rattle.card.specs.Layout.{registers, channels}
-use Rattle.card.specs.Tables.{registerMost}
+use Rattle.card.specs.Fitness.{registerMost}
 use Rattle.lecom.specs.declared.frame.Order.{Order}
 use Rattle.lecom.specs.declared.frame.Order.the-variants.{Unheard, Refused, Read, Write}
 

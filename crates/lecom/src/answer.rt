@@ -7,7 +7,7 @@ use card::layout::BUFFER;
 use card::layout::LECOM_ADDRESS;
 use card::layout::OPERATIONAL;
 use card::layout::REGISTERS;
-use card::layout::SAVED;
+use card::layout::SAVED_REGISTERS;
 use card::numbers::ANSWERED;
 use card::numbers::DONE;
 use card::numbers::PROBE_FAULT;
@@ -164,7 +164,7 @@ fn write(words: &mut [u32], code: u32, value: u32)
         wire::move_words(words, BUFFER, OPERATIONAL, REGISTERS);
         return;
     }
-    wire::move_words(words, OPERATIONAL, SAVED, REGISTERS);
+    wire::move_words(words, OPERATIONAL, SAVED_REGISTERS, REGISTERS);
 }
 
 // Carries out what a frame asks of a fit card.

@@ -15,7 +15,7 @@ use Rattle.figures.specs.Signed.{isNegative, magnitude}
 use Rattle.card.specs.declared.probe.Tenths.{Tenths}
 use Rattle.card.specs.declared.probe.Reading.{Reading}
 use Rattle.card.specs.declared.probe.Reading.the-variants.{Temperature, Fault}
-use Rattle.card.specs.Tables.{loveHundred}
+use Rattle.card.specs.Fitness.{loveHundred}
 use Rattle.card.specs.Reply.{WordsReply, Wrote, GaveWords, roomLeast}
 use Rattle.love.specs.Form.{stx, ack, filterAt, addressAt, fieldAt, tail, pair, filterOf}
 use Rattle.love.specs.Answer.{unitOf, errorMark, errorReply, normalReply, figureCount, fineChar, faultChar, negativeChar, statusField, probeField}

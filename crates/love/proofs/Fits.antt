@@ -9,7 +9,7 @@ use lib.Seq.{take-set-le, drop-set-lt}
 use Rattle.wire.specs.Buffer.{part}
 use Rattle.wire.proofs.Buffers.{part-set}
 use Rattle.card.specs.Layout.{Card, loveAt, loveCount, demandsAt}
-use Rattle.card.specs.Tables.{inSpan, fitWords, fit, loveLeast, loveMost}
+use Rattle.card.specs.Fitness.{inSpan, fitWords, fit, loveLeast, loveMost}
 use Rattle.card.specs.Reply.{onWords, roomLeast}
 use Rattle.card.proofs.Facts.{allIn-set, fit-tables, fit-words}
 use Rattle.card.proofs.Changed.{love-changed}

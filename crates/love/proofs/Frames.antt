@@ -9,14 +9,14 @@ use native.Mathlib.Omega.{arith}
 use lib.Dec.{leb, eqb}
 use lib.ListN.{length, getD}
 use lib.Seq.{drop-cons}
+use Rattle.wire.proofs.Tests.{and-true}
 use Rattle.wire.specs.Choose.{choose}
 use Rattle.wire.specs.Buffer.{part}
 use Rattle.wire.proofs.Cases.{by-choice}
 use Rattle.figures.specs.Figure.{upperHex, noByte, allFigures}
 use Rattle.figures.proofs.Characters.{pair-figures}
 use Rattle.card.specs.Layout.{loveCount}
-use Rattle.card.specs.Tables.{inSpan, loveLeast, loveMost}
-use Rattle.card.proofs.Facts.{and-true}
+use Rattle.card.specs.Fitness.{inSpan, loveLeast, loveMost}
 use Rattle.love.specs.Form.{shortest, longest, lengthRight, addressAt, fieldAt}
 use Rattle.love.specs.Frame.{byteAt, asked}
 use Rattle.love.specs.Stages.{orderWrite, orderBy, orderIn, orderHere}

@@ -9,7 +9,7 @@ use Rattle.figures.specs.Decimal.{digits}
 use Rattle.figures.specs.Signed.{isNegative, magnitude}
 use Rattle.card.specs.Numbers.{answered}
 use Rattle.card.specs.Layout.{Card, loveAddressAt, loveAt}
-use Rattle.card.specs.Tables.{loveHundred}
+use Rattle.card.specs.Fitness.{loveHundred}
 use Rattle.card.specs.Probe.{readingOf}
 use Rattle.card.specs.Reply.{Reply, WordsReply, onWords, shell, roomLeast}
 use Rattle.card.specs.declared.probe.Reading.{Reading}

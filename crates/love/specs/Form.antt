@@ -4,7 +4,7 @@ use mathlib.Core.Bool.{Bool, _&&_}
 use mathlib.Core.List.{List, [], _∷_}
 use lib.Dec.{leb}
 use lib.ListN.{getD}
-use Rattle.card.specs.Tables.{loveHundred}
+use Rattle.card.specs.Fitness.{loveHundred}
 
 -- "Each dialect carries its own shortest and longest frame: .. Love 7 and 32"
 abbrev pub shortest : ℕ

@@ -13,7 +13,7 @@ use Rattle.figures.specs.Decimal.{valueOf}
 use Rattle.figures.specs.Signed.{withSign}
 use Rattle.card.specs.Numbers.{foreignAddress, frameForm, checkCharacter, commandUnknown, valueOutside}
 use Rattle.card.specs.Layout.{loveCount}
-use Rattle.card.specs.Tables.{inSpan, loveHundred, loveLeast, loveMost}
+use Rattle.card.specs.Fitness.{inSpan, loveHundred, loveLeast, loveMost}
 use Rattle.love.specs.Form.{lengthRight, stx, etx, filterAt, addressAt, fieldAt, tail, filterOf}
 use Rattle.love.specs.declared.frame.Order.{Order}
 use Rattle.love.specs.declared.frame.Order.the-variants.{Silent, Refused, Probe, Read, Write}

@@ -8,7 +8,7 @@ use Rattle.wire.specs.Buffer.{part}
 use Rattle.figures.specs.Figure.{decimal, hex, allFigures}
 use Rattle.card.specs.Numbers.{foreignAddress, frameForm, checkCharacter, commandUnknown, valueOutside}
 use Rattle.card.specs.Layout.{loveCount}
-use Rattle.card.specs.Tables.{inSpan, loveLeast, loveMost}
+use Rattle.card.specs.Fitness.{inSpan, loveLeast, loveMost}
 use Rattle.love.specs.Frame.{
   undefinedCommand,
   checksumError,

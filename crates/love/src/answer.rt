@@ -18,7 +18,7 @@ ghost use Rattle.wire.specs.Buffer.{put, part, overlay};
 ghost use Rattle.wire.specs.Sum.{sumOf};
 ghost use Rattle.figures.specs.Figure.{pairOf};
 ghost use Rattle.card.specs.Layout.{loveAt, loveCount, wordCount, memorySize};
-ghost use Rattle.card.specs.Tables.{loveAddressMost};
+ghost use Rattle.card.specs.Fitness.{loveAddressMost};
 ghost use Rattle.card.specs.Probe.{readingOf};
 ghost use Rattle.card.specs.Reply.{Wrote, GaveWords, roomLeast};
 ghost use Rattle.love.specs.Form.{stx, ack, filterAt, fieldAt, tail};

@@ -2,7 +2,7 @@
 use card::fitness::LOVE_HUNDRED;
 ghost use mathlib.Core.Path.{_≡_};
 ghost use Prim.Native.Nat.{_≤_};
-ghost use Rattle.card.specs.Tables.{loveAddressMost};
+ghost use Rattle.card.specs.Fitness.{loveAddressMost};
 ghost use Rattle.love.specs.Form.{lengthRight, filterOf};
 
 // How many figures a byte is.

@@ -22,7 +22,7 @@ ghost use lib.Dec.{eqb};
 ghost use lib.ListN.{length};
 ghost use Rattle.wire.specs.Buffer.{part};
 ghost use Rattle.figures.specs.Figure.{decimal, upperHex, hex, allFigures};
-ghost use Rattle.card.specs.Tables.{loveAddressMost};
+ghost use Rattle.card.specs.Fitness.{loveAddressMost};
 ghost use Rattle.love.specs.Form.{shortest, addressAt};
 ghost use Rattle.love.specs.Frame.{forUnit, checksumRight, byteAt, parameterOf, writeLength, valueAt, signAt, plusSign, minusSign, numberIn, asked};
 ghost use Rattle.love.specs.Stages.{orderWrite, orderBy, orderIn, orderHere};

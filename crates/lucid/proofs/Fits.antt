@@ -8,14 +8,16 @@ use borrow.Author.Tests.{le-leb}
 use lib.Dec.{eqb}
 use lib.ListN.{length, getD, set, length-set}
 use lib.Seq.{take-set-le, drop-set-lt}
+use Rattle.wire.proofs.Tests.{and-true}
 use Rattle.wire.specs.Choose.{choose}
 use Rattle.wire.specs.Buffer.{part}
 use Rattle.wire.proofs.Cases.{by-choice}
 use Rattle.wire.proofs.Buffers.{part-set}
-use Rattle.card.specs.Layout.{Card, demandsAt, channels, parametersAt, parameterCount, keptAt, bufferAt}
-use Rattle.card.specs.Tables.{inSpan, fitParameters, fitWords, fit, demandMost, cycleLeast, cycleMost, cycleDefault, floorMost, floorDefault}
+use Rattle.card.specs.Layout.{Card, demandsAt, channels, parametersAt, parameterCount, savedParametersAt, bufferAt}
+use Rattle.card.specs.Fitness.{inSpan, fitWords, fit, demandMost, cycleLeast, cycleMost, cycleDefault, floorMost, floorDefault}
+use Rattle.card.specs.Scans.{fitParameters}
 use Rattle.card.specs.Reply.{WordsReply, onWords, roomLeast}
-use Rattle.card.proofs.Facts.{and-true, allIn-set, fit-tables, fit-words}
+use Rattle.card.proofs.Facts.{allIn-set, fit-tables, fit-words}
 use Rattle.card.proofs.Changed.{demands-changed, parameters-changed}
 use Rattle.card.proofs.Staying.{IsFit, shell-fit, words-reply-fit}
 use Rattle.lucid.specs.Form.{lengthRight, channelsFrom, numberAt}
@@ -66,7 +68,7 @@ stored-fit : (place : ℕ) (saved : Bool) (v : ℕ) (ws : List ℕ) → place < 
 unfolding stored parameterFits
 stored-fit place saved v ws h f fine =
     let once = parameter-fit ws place v (omega arith) f fine in
-    let e : parametersAt + (parameterCount + place) ≡ keptAt + place = omega arith in
+    let e : parametersAt + (parameterCount + place) ≡ savedParametersAt + place = omega arith in
     let m : (parameterCount + place) % 2 ≡ place % 2 = omega arith in
     by-choice (λ (l : List ℕ). fitWords l ≡ true) saved _ _
     (λ _. subst (λ (n : ℕ). fitWords (set (set ws (parametersAt + place) v) n v) ≡ true) e (parameter-fit (set ws (parametersAt + place) v) (parameterCount + place) v (omega arith) (rw m f) once))

@@ -11,7 +11,7 @@ use lib.ListN.{length}
 use Rattle.wire.specs.Choose.{choose}
 use Rattle.wire.proofs.Cases.{by-choice, yes, no}
 use Rattle.card.specs.Layout.{channels, parameterCount}
-use Rattle.card.specs.Tables.{inSpan, cycleLeast, cycleMost, floorMost}
+use Rattle.card.specs.Fitness.{inSpan, cycleLeast, cycleMost, floorMost}
 use Rattle.lucid.specs.Form.{fieldAt, getParam, cycleAddress, channelsOf, demand, demandSize, sizeOf}
 use Rattle.lucid.specs.Frame.{isGet, isSet, isReset, opcKnown, channelRight, typeWritable, maskOf, lenFor, addressIn, valueIn, inRange, valueRight, placeOf, orderedParameter, ordered, asked, opcIn, p1In, p2In, lenIn}
 use Rattle.lucid.specs.Stages.{parameterAsked, optionAsked, Sized, Placed, Supplied}

@@ -9,6 +9,7 @@ use native.Mathlib.Omega.{arith}
 use borrow.Author.Tests.{eqb-false, not-true}
 use lib.Dec.{eqb, eqb→eq}
 use lib.ListN.{length, getD}
+use Rattle.wire.proofs.Tests.{and-true}
 use Rattle.wire.specs.Choose.{choose}
 use Rattle.wire.proofs.Cases.{yes, by-choice}
 use Rattle.wire.specs.Word.{minus, wordValues}
@@ -17,7 +18,6 @@ use Rattle.card.specs.Layout.{Card, channels}
 use Rattle.card.specs.Probe.{faultCode, readingOf, tenthsOf}
 use Rattle.card.specs.Reply.{WordsReply, onWords, sent, shell, roomLeast, Keeps, leaving}
 use Rattle.card.specs.declared.probe.Reading.the-variants.{Fault}
-use Rattle.card.proofs.Facts.{and-true}
 use Rattle.card.proofs.Replies.{shell-keeps}
 use Rattle.card.proofs.Sweep.{at}
 use Rattle.lucid.specs.Form.{lengthRight, channelsFrom, channelsOf, demand}

@@ -8,8 +8,8 @@ use lib.ListN.{length, getD, set, take}
 use Rattle.wire.specs.Choose.{choose}
 use Rattle.wire.specs.Word.{wordValues}
 use Rattle.card.specs.Numbers.{answered, frameForm, probeFault}
-use Rattle.card.specs.Layout.{Card, demandsAt, parametersEach, parametersAt, keptAt}
-use Rattle.card.specs.Tables.{cycleDefault, floorDefault}
+use Rattle.card.specs.Layout.{Card, demandsAt, parametersEach, parametersAt, savedParametersAt}
+use Rattle.card.specs.Fitness.{cycleDefault, floorDefault}
 use Rattle.card.specs.Probe.{readingOf}
 use Rattle.card.specs.Reply.{Reply, WordsReply, Answer, onWords, leaving, roomLeast, shell}
 use Rattle.card.specs.declared.probe.Tenths.{Tenths}
@@ -97,7 +97,7 @@ demanded (channel ∷ rest) f at ws = demanded rest f (at + demandSize) (set ws 
 -- the words with a parameter set; "Option 80h also sets the saved copy"
 unfoldable pub stored : ℕ → Bool → ℕ → List ℕ → List ℕ
 stored place saved value ws =
-    choose saved (set (set ws (parametersAt + place) value) (keptAt + place) value) (set ws (parametersAt + place) value)
+    choose saved (set (set ws (parametersAt + place) value) (savedParametersAt + place) value) (set ws (parametersAt + place) value)
 
 -- "Option 01h .. resets both parameters of the channel"
 unfoldable pub reset : ℕ → Bool → List ℕ → List ℕ

@@ -9,7 +9,7 @@ use lib.ListN.{length, getD}
 use Rattle.wire.specs.Choose.{choose}
 use Rattle.card.specs.Numbers.{frameForm, commandUnknown, rangeUnknown, valueOutside, readOnly}
 use Rattle.card.specs.Layout.{channels, parametersEach}
-use Rattle.card.specs.Tables.{inSpan, cycleLeast, cycleMost, floorMost}
+use Rattle.card.specs.Fitness.{inSpan, cycleLeast, cycleMost, floorMost}
 use Rattle.lucid.specs.Form.{
   opcAt,
   p1At,

@@ -8,9 +8,9 @@ use card::fitness::CYCLE_DEFAULT;
 use card::fitness::FLOOR_DEFAULT;
 use card::layout::CHANNELS;
 use card::layout::DEMANDS;
-use card::layout::KEPT;
 use card::layout::PARAMETERS;
 use card::layout::PARAMETERS_EACH;
+use card::layout::SAVED_PARAMETERS;
 use card::numbers::ANSWERED;
 use card::numbers::FRAME_FORM;
 use card::numbers::PROBE_FAULT;
@@ -133,7 +133,7 @@ fn store(words: &mut [u32], place: usize, saved: bool, value: u32)
 {
     words[PARAMETERS + place] = value;
     if saved {
-        words[KEPT + place] = value;
+        words[SAVED_PARAMETERS + place] = value;
     }
 }
 

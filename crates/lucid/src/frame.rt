@@ -1,9 +1,9 @@
 // What a LucidControl frame asks: document 01's order, a test and its refusal at a time.
 use crate::form::Lucid;
+use card::change::address;
 use card::fitness::CYCLE_LEAST;
 use card::fitness::CYCLE_MOST;
 use card::fitness::FLOOR_MOST;
-use card::fitness::address;
 use card::fitness::in_span;
 use card::layout::CHANNELS;
 use card::layout::PARAMETERS_EACH;

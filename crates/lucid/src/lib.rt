@@ -13,8 +13,10 @@ ghost use Rattle.lucid.specs.Answer.{lucidReply};
 
 // A LucidControl frame f received by the card; the answer goes to the front of out. Memory and the pending change are lent to be read only.
 pub fn lucid(words: &mut [u32], memory: &[u8], pending: &[u8], f: &[u8], out: &mut [u8]) -> Outcome
-    ensures { λ r. ⌜ Gave (lucidReply (cardOf (now (words .entry)) (now (memory .entry)) (now (pending .entry))) (length (now (out .entry))) (now (f .entry)))
-        (now (out .entry)) (r .number) (r .len) (now (words .exit)) (now (memory .entry)) (now (pending .entry)) (now (out .exit)) ⌝ }
+    ensures { λ r.
+        let before = cardOf (now (words .entry)) (now (memory .entry)) (now (pending .entry)) in
+        let after = cardOf (now (words .exit)) (now (memory .entry)) (now (pending .entry)) in
+        ⌜ Gave (lucidReply before (length (now (out .entry))) (now (f .entry))) (now (out .entry)) r after (now (out .exit)) ⌝ }
 {
     let number = card::stop_early(words, memory, pending, ROOM_LEAST, out.len());
     if number != ANSWERED {

@@ -9,12 +9,12 @@ use borrow.Author.Tests.{eq-eqb, eqb-true, eqb-false}
 use lib.Dec.{eqb, lit≤}
 use lib.ListN.{length, getD, take, drop, set, length-append, length-take, length-drop, drop-of-length-le}
 use lib.Seq.{take-append-seam, drop-cons}
+use Rattle.wire.proofs.Tests.{and-true}
 use Rattle.wire.specs.Buffer.{overlay, same}
 use Rattle.wire.specs.Sum.{sumOf}
 use Rattle.wire.proofs.Buffers.{overlay-set}
 use Rattle.card.specs.Layout.{dataMost}
 use Rattle.card.specs.Reply.{Wrote}
-use Rattle.card.proofs.Facts.{and-true}
 use Rattle.datalink.specs.Frame.{framed, longest, dataPlace, changeBitsBits}
 use Rattle.datalink.specs.Answer.{response}
 use Rattle.datalink.proofs.Responses.{framed-length}

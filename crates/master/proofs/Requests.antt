@@ -8,9 +8,9 @@ use native.Mathlib.Omega.{arith}
 use borrow.Author.Tests.{leb-true, eqb-true}
 use lib.Dec.{leb, lit≤}
 use lib.ListN.{length}
+use Rattle.wire.proofs.Tests.{and-true}
 use Rattle.card.specs.Layout.{dataMost}
-use Rattle.card.specs.Tables.{iaMost}
-use Rattle.card.proofs.Facts.{and-true}
+use Rattle.card.specs.Fitness.{iaMost}
 use Rattle.master.specs.Request.{Ask, Request, askOf, requestOf, namedBy, namedMost, paired, addressMost, addressEnd, askable}
 use Rattle.master.specs.Request.Ask.{bytes, bits}
 use Rattle.master.specs.Accepted.{Accepted}

@@ -2,7 +2,7 @@
 use mathlib.Core.Path.{_≡_}
 use mathlib.Core.Bool.{true}
 use Prim.Native.Nat.{_+_, _≤_}
-use Rattle.card.specs.Tables.{iaMost}
+use Rattle.card.specs.Fitness.{iaMost}
 use Rattle.master.specs.Request.{Request, namedBy, namedMost, paired, addressMost, addressEnd}
 
 pub record Accepted (q : Request) : Type 0 where

@@ -8,7 +8,7 @@ use lib.Bits.{bitAnd, bitOr}
 use lib.Dec.{leb, eqb}
 use lib.ListN.{length, getD}
 use Rattle.card.specs.Layout.{dataMost}
-use Rattle.card.specs.Tables.{iaMost}
+use Rattle.card.specs.Fitness.{iaMost}
 use Rattle.master.specs.declared.request.Kind.{Kind}
 use Rattle.master.specs.declared.request.Kind.the-variants.{Bytes, Bits}
 

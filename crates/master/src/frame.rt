@@ -11,7 +11,7 @@ ghost use lib.ListN.{length};
 ghost use Rattle.wire.specs.Buffer.{overlay};
 ghost use Rattle.card.specs.Layout.{dataMost};
 ghost use Rattle.card.specs.Reply.{Wrote};
-ghost use Rattle.card.specs.Tables.{iaMost};
+ghost use Rattle.card.specs.Fitness.{iaMost};
 ghost use Rattle.datalink.specs.Frame.{start, acknowledgeBits, framed, longest};
 ghost use Rattle.master.specs.Request.{askOf, requestOf, addressMost};
 ghost use Rattle.master.specs.Accepted.{Accepted};

@@ -1,7 +1,7 @@
 // The tables by name and place, for poke and peek: every entry in one numbering, the words first, then memory, then the pending change. docs/CONSOLE.md.
 
-use card::fitness;
-use card::fitness::NO_CHANGE;
+use card::change;
+use card::change::NO_CHANGE;
 use card::layout::BUFFER;
 use card::layout::CHANNELS;
 use card::layout::DATA;
@@ -9,7 +9,6 @@ use card::layout::DATA_MOST;
 use card::layout::DEMANDS;
 use card::layout::HIGH_ADDRESS;
 use card::layout::IA;
-use card::layout::KEPT;
 use card::layout::KIND;
 use card::layout::LOVE;
 use card::layout::LOVE_COUNT;
@@ -20,7 +19,8 @@ use card::layout::OPERATIONAL;
 use card::layout::PARAMETER_COUNT;
 use card::layout::PARAMETERS;
 use card::layout::REGISTERS;
-use card::layout::SAVED;
+use card::layout::SAVED_PARAMETERS;
+use card::layout::SAVED_REGISTERS;
 use card::layout::WORDS;
 use lines::UNREAD;
 use lines::line;
@@ -84,11 +84,11 @@ fn span_of(number: usize) -> Span
         MEMORY_TABLE => Span(WORDS, MEMORY),
         BUFFER_TABLE => Span(BUFFER, REGISTERS),
         OPERATIONAL_TABLE => Span(OPERATIONAL, REGISTERS),
-        SAVED_TABLE => Span(SAVED, REGISTERS),
+        SAVED_TABLE => Span(SAVED_REGISTERS, REGISTERS),
         LOVE_TABLE => Span(LOVE, LOVE_COUNT),
         DEMAND_TABLE => Span(DEMANDS, CHANNELS),
         PARAMETER_TABLE => Span(PARAMETERS, PARAMETER_COUNT),
-        KEPT_TABLE => Span(KEPT, PARAMETER_COUNT),
+        KEPT_TABLE => Span(SAVED_PARAMETERS, PARAMETER_COUNT),
         PENDING_TABLE => Span(CHANGE_FROM, CHANGE_DATA + DATA_MOST),
         _ => Span(0, 0),
     }
@@ -174,7 +174,7 @@ fn load_change(pending: &[u8], place: usize) -> u32
     requires { ⌜ (place < pendingCount) × (length (now pending) ≡ pendingSize) ⌝ }
 {
     if place == CHANGE_ADDRESS {
-        return fitness::address(pending[LOW_ADDRESS], pending[HIGH_ADDRESS]) as u32;
+        return change::address(pending[LOW_ADDRESS], pending[HIGH_ADDRESS]) as u32;
     }
     let i = index(place);
     wide(pending[i])

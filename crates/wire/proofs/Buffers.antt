@@ -6,7 +6,7 @@ use native.Mathlib.Nat.{zero-add}
 use native.Mathlib.Numerals.{add-one}
 use native.Mathlib.Omega.{arith}
 use lib.ListN.{length, take, drop, set, getD, length-append, length-drop, length-take}
-use lib.Seq.{take-append-seam, take-append-le, drop-append-add, set-append-seam, take-nil, take-take, drop-drop, drop-cons, take-add, take-all, take-set-lt, drop-set-add, getD-take, sets, sets-eq, set-at, drop-at, length-take-le}
+use lib.Seq.{take-append-seam, take-append-le, drop-append-add, set-append-seam, take-nil, take-take, drop-drop, drop-cons, take-add, take-all, take-set-lt, drop-set-add, getD-take, getD-drop, sets, sets-eq, set-at, drop-at, length-take-le}
 use Rattle.wire.specs.Buffer.{put, overlay, part}
 
 pub overlay-none : (out : List ℕ) → overlay [] out ≡ out
@@ -72,6 +72,10 @@ part-append s a b e h k =
 pub length-part : (s : List ℕ) (a e : ℕ) → a ≤ e → e ≤ length s → length (part s a e) ≡ e - a
 length-part s a e h k = simp (length-take, length-drop) (omega arith)
 
+-- an index into a part
+pub getD-part : (s : List ℕ) (a e i : ℕ) → i < e - a → getD (part s a e) i 0 ≡ getD s (a + i) 0
+getD-part s a e i h = getD-take (e - a) (drop a s) i 0 h ∙ getD-drop a s i 0
+
 -- a part to the end is what is left
 pub part-rest : (s : List ℕ) (a : ℕ) → part s a (length s) ≡ drop a s
 part-rest s a = take-all (length s - a) (drop a s) (rw length-drop (omega arith))
@@ -120,6 +124,18 @@ module _ (d : List ℕ) (at : ℕ) (s : List ℕ) (fits : at + length s ≤ leng
   drop-put n h =
       let l : length (take at d ++ s) ≡ at + length s = length-append (take at d) s ∙ ap (λ (k : ℕ). k + length s) (length-take-le at d (omega arith)) in
       drop-back (put d at s) d (at + length s) (rw (← append-assoc (take at d) s (drop (at + length s) d)) (drop-at (take at d ++ s) (drop (at + length s) d) (at + length s) l)) n h
+
+  -- the same, element by element
+  pub getD-put-before : (i : ℕ) → i < at → getD (put d at s) i 0 ≡ getD d i 0
+  getD-put-before i h = getD-front (put d at s) d at (take-put at (omega arith)) i h
+
+  pub getD-put-at : (i : ℕ) → i < length s → getD (put d at s) (at + i) 0 ≡ getD s i 0
+  getD-put-at i h = sym (getD-part (put d at s) at (at + length s) i (omega arith)) ∙ ap (λ (l : List ℕ). getD l i 0) part-put
+
+  pub getD-put-after : (i : ℕ) → at + length s ≤ i → getD (put d at s) i 0 ≡ getD d i 0
+  getD-put-after i h =
+      let m : i + 0 ≡ i = omega arith in
+      ap (λ (j : ℕ). getD (put d at s) j 0) (sym m) ∙ sym (getD-drop i (put d at s) 0 0) ∙ ap (λ (l : List ℕ). getD l 0 0) (drop-put i h) ∙ getD-drop i d 0 0 ∙ ap (λ (j : ℕ). getD d j 0) m
 
 -- a part of which one element is stored
 pub part-set : (s : List ℕ) (a e k v : ℕ) → k < e - a → part (set s (a + k) v) a e ≡ set (part s a e) k v

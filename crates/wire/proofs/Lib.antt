@@ -1,4 +1,6 @@
+pub mod Tests
 pub mod Cases
 pub mod Sums
 pub mod Buffers
 pub mod Moves
+pub mod Lengths

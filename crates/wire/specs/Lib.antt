@@ -2,3 +2,4 @@ pub mod Choose
 pub mod Buffer
 pub mod Sum
 pub mod Word
+pub mod Length

@@ -10,7 +10,7 @@ use Rattle.bits.specs.Reader.{taken}
 use Rattle.bits.specs.declared.Taken.{Taken}
 use Rattle.card.specs.Numbers.{cardUnfit, imageLength, imagePadding}
 use Rattle.card.specs.Layout.{cardOf}
-use Rattle.card.specs.Tables.{fit}
+use Rattle.card.specs.Fitness.{fit}
 use Rattle.card.proofs.Facts.{fit-facts}
 use Rattle.card.proofs.Replies.{did-silent, did-as}
 use Rattle.image.specs.Form.{padding}

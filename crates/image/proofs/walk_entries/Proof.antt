@@ -5,11 +5,11 @@ use mathlib.Core.Bool.{_&&_}
 use mathlib.Core.List.{[]}
 use native.Mathlib.Omega.{arith}
 use lib.ListN.{drop}
+use Rattle.wire.proofs.Tests.{and-true-right}
 use Rattle.bits.specs.Bits.{field}
 use Rattle.bits.specs.Fields.{widthOf, fields}
 use Rattle.bits.specs.Reader.{taken}
 use Rattle.bits.specs.declared.Taken.{Taken}
-use Rattle.card.proofs.Scans.{and-true-right}
 use Rattle.image.specs.Form.{savedForm, widths, used}
 use Rattle.image.specs.Saved.{wordOf, entriesOf}
 use Rattle.image.specs.Ranges.{inRange, allInRange}

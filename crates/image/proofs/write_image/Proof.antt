@@ -48,9 +48,7 @@ returns-2 c =
       numbered = refl;
       measured = sym l;
       written = ap (λ (x : List ℕ). x ++ drop imageSize (a .out .now)) (c .before .before .pack .ensures) ∙ ap (λ (n : ℕ). imageOf (a .words .now) ++ drop n (a .out .now)) (sym l);
-      worded = refl;
-      remembered = refl;
-      pended = refl;
+      left = refl;
     })
 
 pub write-image-spec : {M : Type 1} → statement M

@@ -1,7 +1,7 @@
 -- `card::entries::restart_card` meets its contract. Assumes nothing.
 use Rattle.card.specs.Fit.{Fit}
 use Rattle.card.specs.Layout.{cardOf}
-use Rattle.card.proofs.Replies.{did-silent, did-as}
+use Rattle.card.proofs.Replies.{did-silent, did-as, same-card}
 use Rattle.card.proofs.Facts.{fit-facts}
 use Rattle.card.specs.Reply.{guarded}
 use Rattle.card.specs.Entries.{restart, restarted, dropped, fullDemands}
@@ -57,7 +57,7 @@ unfolding restart guarded restarted dropped
 returns-2 c =
     let moved = c .before .before .before .before .before .before .fill-demands .ensures ∙ ap fullDemands (c .before .before .before .before .before .before .before .before .before .before .restore .ensures) in
     did-as _ _ (yes _ _ _ _ (told-yes (c .before .before .before .before .before .before .before .before .before .before .before .before .before .is-fit .ensures) (c .before .before .before .before .before .before .before .before .before .before .before .before .if1 .left)) refl)
-    (record { quiet = refl; numbered = refl; worded = moved; remembered = c .before .before .fault-probes .ensures; pended = refl })
+    (record { quiet = refl; numbered = refl; left = same-card moved (c .before .before .fault-probes .ensures) refl })
 
 pub restart-card-spec : {M : Type 1} → statement M
 restart-card-spec =

@@ -3,7 +3,7 @@ use Rattle.wire.specs.Buffer.{put, part}
 use Prim.Native.Nat.{ℕ}
 use mathlib.Core.List.{List}
 use mathlib.Core.Path.{ap, _∙_}
-use Rattle.card.specs.Entries.{keptParameters, savedRegisters, savedCopy}
+use Rattle.card.specs.Entries.{restoredParameters, restoredRegisters, registersTo}
 use mathlib.Core.Logic.{inr}
 use native.Mathlib.Omega.{arith}
 use borrow.Author.Needs.{needs}
@@ -23,7 +23,7 @@ same-length : tie.Need-same-length
 same-length c = search needs
 
 returns : tie.Need-returns
-unfolding keptParameters savedRegisters savedCopy
+unfolding restoredParameters restoredRegisters registersTo
 returns c =
     c .before .before .move-words3 .ensures
     ∙ ap (λ (l : List ℕ). put l 11 (part l 19 27))

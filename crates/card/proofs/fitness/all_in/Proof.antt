@@ -1,6 +1,7 @@
 -- `card::fitness::all_in` meets its contract. The invariant: the test of the whole is what was found so far and the test of the rest. Assumes nothing.
-use Rattle.card.proofs.Scans.{allIn-next, and-true-right}
-use Rattle.card.specs.Tables.{allIn}
+use Rattle.wire.proofs.Tests.{and-true-right}
+use Rattle.card.proofs.Scans.{allIn-next}
+use Rattle.card.specs.Scans.{allIn}
 use lib.ListN.{length, drop, drop-of-length-le}
 use borrow.Author.Needs.{needs}
 use native.Mathlib.Omega.{arith}

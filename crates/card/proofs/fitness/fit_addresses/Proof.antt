@@ -1,6 +1,6 @@
 -- `card::fitness::fit_addresses` meets its contract: the tests are those of the definition. Assumes nothing.
 use borrow.Author.Needs.{needs}
-use Rattle.card.specs.Tables.{fitAddresses}
+use Rattle.card.specs.Scans.{fitAddresses}
 use Rattle.card.proofs.fitness.fit_addresses.Statement.{statement}
 use Rattle.card.proofs.fitness.fit_addresses.Tie as tie
 

@@ -1,6 +1,7 @@
 -- `card::fitness::fit_parameters` meets its contract. The invariant: the test of the whole is what was found so far and the test of the rest. Assumes nothing.
-use Rattle.card.proofs.Scans.{parameters-next, parameters-none, and-true-right}
-use Rattle.card.specs.Tables.{fitParameters}
+use Rattle.wire.proofs.Tests.{and-true-right}
+use Rattle.card.proofs.Scans.{parameters-next, parameters-none}
+use Rattle.card.specs.Scans.{fitParameters}
 use lib.ListN.{length, drop}
 use borrow.Author.Needs.{needs}
 use native.Mathlib.Omega.{arith}

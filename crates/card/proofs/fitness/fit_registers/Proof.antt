@@ -1,6 +1,7 @@
 -- `card::fitness::fit_registers` meets its contract: the test of the three copies is that of each. Assumes nothing.
 use Rattle.card.proofs.Scans.{allIn-thirds}
-use Rattle.card.specs.Tables.{allIn, registerMost}
+use Rattle.card.specs.Fitness.{registerMost}
+use Rattle.card.specs.Scans.{allIn}
 use Rattle.card.specs.Layout.{registers}
 use Rattle.wire.specs.Word.{minus}
 use lib.ListN.{length, take, drop, length-drop}

@@ -1,5 +1,5 @@
 -- `card::fitness::fit_words` meets its contract: the tests are those of the definition. Assumes nothing.
-use Rattle.card.specs.Tables.{fitWords}
+use Rattle.card.proofs.Ranges.{words-scanned}
 use borrow.Author.Needs.{needs}
 use Rattle.card.proofs.fitness.fit_words.Statement.{statement}
 use Rattle.card.proofs.fitness.fit_words.Tie as tie
@@ -65,12 +65,12 @@ fit-registers-requires : tie.Need-fit-registers-requires
 fit-registers-requires c κs = search needs
 
 returns : tie.Need-returns
-unfolding fitWords
 returns c =
     let h = c .before .before in
     let g = h .before .before in
     let f = g .before .before in
-    rw (← c .fit-registers .ensures, ← h .fit-parameters .ensures, ← g .all-in2 .ensures, ← f .all-in .ensures, ← f .before .before .fit-addresses .ensures)
+    let ws = f .before .before .before .before .before .before .before .args .words .now in
+    rw (c .fit-registers .ensures, h .fit-parameters .ensures, g .all-in2 .ensures, f .all-in .ensures, f .before .before .fit-addresses .ensures) (words-scanned ws (search needs))
 
 pub fit-words-spec : {M : Type 1} → statement M
 fit-words-spec =

@@ -2,7 +2,7 @@
 use mathlib.Core.Path.{refl}
 use borrow.Author.Tests.{le-leb, lt-leb}
 use Rattle.wire.proofs.Cases.{yes, no}
-use Rattle.card.specs.Tables.{inSpan}
+use Rattle.card.specs.Fitness.{inSpan}
 use Rattle.card.proofs.fitness.in_span.Statement.{statement}
 use Rattle.card.proofs.fitness.in_span.Tie as tie
 

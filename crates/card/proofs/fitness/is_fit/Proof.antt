@@ -1,7 +1,7 @@
 -- `card::fitness::is_fit` meets its contract: the lengths first, then the pending change, then the words. Assumes nothing.
+use Rattle.wire.proofs.Tests.{and-false-right, and-true-right}
 use Rattle.wire.proofs.Cases.{told-no, told-yes}
-use Rattle.card.proofs.Scans.{and-true-right, and-false-right}
-use Rattle.card.specs.Tables.{fit}
+use Rattle.card.specs.Fitness.{fit}
 use borrow.Author.Tests.{eq-eqb, ne-eqb}
 use borrow.Author.Needs.{needs}
 use Rattle.card.proofs.fitness.is_fit.Statement.{statement}

@@ -1,9 +1,9 @@
 -- `datalink::answer::acknowledge` meets its contract. Assumes nothing.
 use Rattle.datalink.proofs.Pendings.{Named, echoable-named, pending-echoable}
 use Rattle.datalink.specs.Answer.{acknowledged, applied, appliedTo}
-use Rattle.card.proofs.Replies.{did-silent, did-as}
+use Rattle.card.proofs.Replies.{did-silent, did-as, same-card}
 use Rattle.card.specs.Entries.{dropped}
-use Rattle.card.specs.Tables.{addressOf}
+use Rattle.card.specs.Change.{addressOf}
 use Rattle.card.specs.Layout.{kindAt, numAt, lowAddressAt, highAddressAt}
 use Rattle.wire.proofs.Buffers.{part-rest}
 use Rattle.wire.proofs.Cases.{yes, no}
@@ -84,7 +84,7 @@ unfolding acknowledged applied appliedTo dropped
 returns-2 c =
     let s = c .before .before .before .before .before .before .before .before .before .before .before .before .before .before .before .before .args in
     did-as _ _ (no _ _ _ _ (ne-eqb _ _ (c .before .before .before .before .before .before .before .before .before .before .before .if1 .left)) refl)
-    (record { quiet = refl; numbered = refl; worded = refl; remembered = c .before .before .apply .ensures ∙ rw (part-rest (s .pending .now) 4, c .before .before .before .before .before .before .before .before .address .ensures, c .before .before .before .before .before .before .bytes-named .ensures); pended = refl })
+    (record { quiet = refl; numbered = refl; left = same-card refl (c .before .before .apply .ensures ∙ rw (part-rest (s .pending .now) 4, c .before .before .before .before .before .before .before .before .address .ensures, c .before .before .before .before .before .before .bytes-named .ensures)) refl })
 
 pub acknowledge-spec : {M : Type 1} → statement M
 acknowledge-spec =

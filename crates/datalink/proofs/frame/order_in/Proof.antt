@@ -1,5 +1,5 @@
 -- `datalink::frame::order_in` meets its contract. Assumes nothing.
-use Rattle.card.specs.Tables.{named}
+use Rattle.card.specs.Change.{named}
 use Rattle.datalink.specs.Frame.{kindIn, kindOf, numIn, namedIn, addressIn, bareSize}
 use lib.ListN.{length}
 use Prim.Native.Nat.{ℕ, _≤_}

@@ -1,8 +1,8 @@
 -- `lecom::answer::put_refusal` meets its contract, test by test. Assumes nothing.
+use Rattle.wire.proofs.Tests.{and-true}
 use Rattle.card.proofs.Replies.{wrote-as}
 use Rattle.lecom.proofs.Writes.{wrote-one}
 use Rattle.wire.proofs.Cases.{yes, no}
-use Rattle.card.proofs.Facts.{and-true}
 use borrow.Author.Tests.{eqb-true}
 use mathlib.Core.Path.{refl}
 use Rattle.lecom.specs.Answer.{refusalBytes}

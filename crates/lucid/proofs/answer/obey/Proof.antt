@@ -1,8 +1,8 @@
 -- `lucid::answer::obey` meets its contract. Assumes nothing.
+use Rattle.wire.proofs.Tests.{and-true}
 use Rattle.lucid.proofs.Replies.{told-as, given-unframed, given-asked}
 use Rattle.lucid.proofs.Judged.{Safe, safe}
 use Rattle.lucid.specs.Answer.{answerTo, changed}
-use Rattle.card.proofs.Facts.{and-true}
 use Rattle.wire.proofs.Cases.{told-yes, told-no}
 use borrow.Author.Tests.{leb-true}
 use mathlib.Core.Path.{sym, ap, _∙_, subst}

@@ -1,6 +1,6 @@
 -- `lucid::frame::pair` meets its contract. Assumes nothing.
 use native.Mathlib.Omega.{arith}
-use Rattle.card.specs.Tables.{addressOf}
+use Rattle.card.specs.Change.{addressOf}
 use Rattle.lucid.specs.Form.{numberAt}
 use borrow.Author.Needs.{needs}
 use Rattle.lucid.proofs.frame.pair.Statement.{statement}

@@ -1,8 +1,8 @@
--- `card::fitness::address` meets its contract: the tests are those of the definition. Assumes nothing.
-use Rattle.card.specs.Tables.{addressOf}
+-- `card::change::address` meets its contract: the tests are those of the definition. Assumes nothing.
+use Rattle.card.specs.Change.{addressOf}
 use borrow.Author.Needs.{needs}
-use Rattle.card.proofs.fitness.address.Statement.{statement}
-use Rattle.card.proofs.fitness.address.Tie as tie
+use Rattle.card.proofs.change.address.Statement.{statement}
+use Rattle.card.proofs.change.address.Tie as tie
 
 mul-result : tie.Need-mul-result
 mul-result c = search needs

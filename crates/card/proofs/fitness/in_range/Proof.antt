@@ -1,13 +1,13 @@
--- `image::range::in_range` meets its contract, test by test. Assumes nothing.
+-- `card::fitness::in_range` meets its contract, test by test. Assumes nothing.
 use mathlib.Core.Path.{_∙_}
 use native.Mathlib.Omega.{arith}
 use borrow.Author.Needs.{needs}
 use borrow.Author.Tests.{eq-eqb}
 use Rattle.wire.proofs.Cases.{cases, yes}
-use Rattle.image.specs.Ranges.{inRange}
-use Rattle.image.proofs.Ranges.{at-demand, at-cycle, at-floor, at-register}
-use Rattle.image.proofs.range.in_range.Statement.{statement}
-use Rattle.image.proofs.range.in_range.Tie as tie
+use Rattle.card.specs.Fitness.{inRange}
+use Rattle.card.proofs.Ranges.{at-demand, at-cycle, at-floor, at-register}
+use Rattle.card.proofs.fitness.in_range.Statement.{statement}
+use Rattle.card.proofs.fitness.in_range.Tie as tie
 
 returns : tie.Need-returns
 unfolding inRange

@@ -1,4 +1,4 @@
--- A refused code and a refused restart change no table. Assumes nothing.
+-- A refusal changes no table: setting a code, restart, the governor. Assumes nothing.
 use Prim.Native.Nat.{ℕ}
 use native.Mathlib.Omega.{arith}
 use lib.Dec.{ltb}

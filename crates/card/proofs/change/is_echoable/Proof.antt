@@ -1,8 +1,8 @@
--- `card::fitness::is_echoable` meets its contract: the tests are those of the definition. Assumes nothing.
-use Rattle.card.specs.Tables.{echoable}
+-- `card::change::is_echoable` meets its contract: the tests are those of the definition. Assumes nothing.
+use Rattle.card.specs.Change.{echoable}
 use borrow.Author.Needs.{needs}
-use Rattle.card.proofs.fitness.is_echoable.Statement.{statement}
-use Rattle.card.proofs.fitness.is_echoable.Tie as tie
+use Rattle.card.proofs.change.is_echoable.Statement.{statement}
+use Rattle.card.proofs.change.is_echoable.Tie as tie
 
 num-right-requires : tie.Need-num-right-requires
 num-right-requires c κs = search needs

@@ -1,9 +1,9 @@
--- `card::fitness::fit_pending` meets its contract: no change first, then the tests of the definition. Assumes nothing.
-use Rattle.card.specs.Tables.{fitPending}
+-- `card::change::fit_pending` meets its contract: no change first, then the tests of the definition. Assumes nothing.
+use Rattle.card.specs.Change.{fitPending}
 use borrow.Author.Tests.{eq-eqb, ne-eqb}
 use borrow.Author.Needs.{needs}
-use Rattle.card.proofs.fitness.fit_pending.Statement.{statement}
-use Rattle.card.proofs.fitness.fit_pending.Tie as tie
+use Rattle.card.proofs.change.fit_pending.Statement.{statement}
+use Rattle.card.proofs.change.fit_pending.Tie as tie
 
 shared-slice-read-kind : tie.Need-shared-slice-read-kind
 shared-slice-read-kind c = search needs

@@ -1,0 +1,32 @@
+-- Tests joined by "and" and "or". Assumes nothing.
+use mathlib.Core.Path.{_≡_, refl, sym}
+use mathlib.Core.Bool.{Bool, true, false, _&&_, _||_}
+
+pub and-true : (a b : Bool) → (a && b) ≡ true → (a ≡ true) × (b ≡ true)
+and-true true b h = (refl, h)
+and-true false b h = (h, cc)
+
+pub both : {a b : Bool} → a ≡ true → b ≡ true → (a && b) ≡ true
+both h g = rw (h, g)
+
+pub and-assoc : (a b d : Bool) → (a && (b && d)) ≡ ((a && b) && d)
+and-assoc true b d = refl
+and-assoc false b d = refl
+
+pub and-true-right : (t : Bool) → (t && true) ≡ t
+and-true-right true = refl
+and-true-right false = refl
+
+pub and-false-right : (t : Bool) → (t && false) ≡ false
+and-false-right true = refl
+and-false-right false = refl
+
+pub or-true-right : (t : Bool) → (t || true) ≡ true
+or-true-right true = refl
+or-true-right false = refl
+
+-- two tests, each of which gives the other, are one
+pub same-test : (a b : Bool) → (a ≡ true → b ≡ true) → (b ≡ true → a ≡ true) → a ≡ b
+same-test true b f g = sym (f refl)
+same-test false true f g = g refl
+same-test false false f g = refl
