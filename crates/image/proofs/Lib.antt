@@ -5,4 +5,5 @@ pub mod Whole
 pub mod Ranges
 pub mod Outcomes
 pub mod RoundTrip
-pub mod Keeping
+pub mod Laws
+pub mod Fits

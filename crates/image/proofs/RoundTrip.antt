@@ -19,19 +19,20 @@ use Rattle.bits.proofs.Writing.{putField-own}
 use Rattle.bits.proofs.Sequences.{Fit, none, more, fields-fit, fields-putFields, putFields-own}
 use Rattle.card.specs.Numbers.{done}
 use Rattle.card.specs.Layout.{Card, savedRegistersAt, loveAt, wordCount}
-use Rattle.card.specs.Fitness.{inSpan, iaMost, lecomLeast, lecomMost, loveAddressMost, loveMost, registerMost, fit}
+use Rattle.card.specs.Fitness.{inSpan, inRange, iaMost, lecomLeast, lecomMost, loveAddressMost, loveMost, registerMost, fit}
 use Rattle.card.specs.Reply.{Reply, silent}
 use Rattle.card.proofs.Facts.{fit-facts}
+use Rattle.card.proofs.Ranges.{InRange, at-love, at-register}
 use Rattle.image.specs.declared.form.Entry.{Entry}
 use Rattle.image.specs.Form.{run, savedForm, registerBias, loveBias, holds, widths, used, padding, imageSize}
 use Rattle.image.specs.Saved.{fieldOf, values, replaced, imageOf, entriesOf, paddingOf, restored}
-use Rattle.image.specs.Ranges.{inRange, allInRange}
+use Rattle.image.specs.Ranges.{entriesRight}
 use Rattle.image.specs.Entries.{readImage}
 use Rattle.image.proofs.Table as table
 use Rattle.image.proofs.Words.{Words, values-replaced, replaced-values, replaced-other}
 use Rattle.image.proofs.Steps.{form-sound}
 use Rattle.image.proofs.Whole.{total, length-blank, length-imageOf, padding-imageOf, imageOf-written}
-use Rattle.image.proofs.Ranges.{InRange, at-love, at-register, fit-in-range, fit-restored, allInRange-values}
+use Rattle.image.proofs.Ranges.{fit-in-range, right-values}
 use Rattle.image.proofs.Outcomes.{read-done, read-was-done, read-card}
 
 -- A fit card's values fit their fields
@@ -55,28 +56,28 @@ fit-form [] ws h = none
 fit-form (e ∷ form) ws h = more (h 0 (omega arith)) (fit-form form ws (λ k l. h (suc k) (omega arith)))
 
 -- the entries past the addresses
-past-addresses : (ws : List ℕ) → Words ws → InRange ws → (k : ℕ) → table.firstRegister ≤ k → k < table.entryCount → Dec (k < table.firstParameter) → Dec (k < table.firstLove) → FitsAt savedForm ws k
+past-addresses : (ws : List ℕ) → length ws ≡ wordCount → Words ws → InRange ws → (k : ℕ) → table.firstRegister ≤ k → k < table.entryCount → Dec (k < table.firstParameter) → Dec (k < table.firstLove) → FitsAt savedForm ws k
 unfolding fieldOf
-past-addresses ws hw h k g l (yes a) b =
+past-addresses ws n hw h k g l (yes a) b =
     let j = savedRegistersAt + (k - table.firstRegister) in
     let x = biased registerBias registerMost (getD ws j 0) (omega arith) (hw j) (at-register j (getD ws j 0) (omega arith) ∙ h j (omega arith)) in
     rw (table.register-at k g a) (omega arith)
-past-addresses ws hw h k g l (no a) (yes b) = rw (table.parameter-at k (omega arith) b) (omega arith)
-past-addresses ws hw h k g l (no a) (no b) =
+past-addresses ws n hw h k g l (no a) (yes b) = rw (table.parameter-at k (omega arith) b) (omega arith)
+past-addresses ws n hw h k g l (no a) (no b) =
     let j = loveAt + (k - table.firstLove) in
     let x = biased loveBias loveMost (getD ws j 0) (omega arith) (hw j) (at-love j (getD ws j 0) (omega arith) (omega arith) ∙ h j (omega arith)) in
     rw (table.love-at k (omega arith) l) (omega arith)
 
 -- each value of the image's table
-value-fits : (ws : List ℕ) → Words ws → InRange ws → (k : ℕ) → k < table.entryCount → Dec (k < table.firstParameter) → Dec (k < table.firstLove) → FitsAt savedForm ws k
+value-fits : (ws : List ℕ) → length ws ≡ wordCount → Words ws → InRange ws → (k : ℕ) → k < table.entryCount → Dec (k < table.firstParameter) → Dec (k < table.firstLove) → FitsAt savedForm ws k
 unfolding savedForm run fieldOf inRange choose
-value-fits ws hw h zero l a b = let x = leb-true (getD ws 0 0) iaMost (h 0 (omega arith)) in omega arith
-value-fits ws hw h (suc zero) l a b = let x = leb-true (getD ws 1 0) lecomMost (and-true (leb (getD ws 1 0) lecomMost) _ (and-true (leb lecomLeast (getD ws 1 0)) _ (h 1 (omega arith)) .1) .0) in omega arith
-value-fits ws hw h (suc (suc zero)) l a b = let x = leb-true (getD ws 2 0) loveAddressMost (and-true (leb (getD ws 2 0) loveAddressMost) _ (h 2 (omega arith)) .0) in omega arith
-value-fits ws hw h (suc (suc (suc k))) l a b = past-addresses ws hw h (suc (suc (suc k))) (omega arith) l a b
+value-fits ws n hw h zero l a b = let x = leb-true (getD ws 0 0) iaMost (h 0 (omega arith)) in omega arith
+value-fits ws n hw h (suc zero) l a b = let x = leb-true (getD ws 1 0) lecomMost (and-true (leb (getD ws 1 0) lecomMost) _ (and-true (leb lecomLeast (getD ws 1 0)) _ (h 1 (omega arith)) .1) .0) in omega arith
+value-fits ws n hw h (suc (suc zero)) l a b = let x = leb-true (getD ws 2 0) loveAddressMost (and-true (leb (getD ws 2 0) loveAddressMost) _ (h 2 (omega arith)) .0) in omega arith
+value-fits ws n hw h (suc (suc (suc k))) l a b = past-addresses ws n hw h (suc (suc (suc k))) (omega arith) l a b
 
-fit-values : (ws : List ℕ) → Words ws → InRange ws → Fit (widths savedForm) (values savedForm ws)
-fit-values ws hw h = fit-form savedForm ws (λ k l. value-fits ws hw h k (omega (arith, table.form-length)) (decLt k table.firstParameter) (decLt k table.firstLove))
+fit-values : (ws : List ℕ) → length ws ≡ wordCount → Words ws → InRange ws → Fit (widths savedForm) (values savedForm ws)
+fit-values ws n hw h = fit-form savedForm ws (λ k l. value-fits ws n hw h k (omega (arith, table.form-length)) (decLt k table.firstParameter) (decLt k table.firstLove))
 
 -- The laws
 
@@ -84,7 +85,7 @@ fit-values ws hw h = fit-form savedForm ws (λ k l. value-fits ws hw h k (omega 
 pub entriesOf-imageOf : (card : Card) → fit card ≡ true → Words (card .words) → entriesOf (imageOf (card .words)) ≡ values savedForm (card .words)
 unfolding imageOf entriesOf
 entriesOf-imageOf card t hw =
-    fields-putFields _ 0 (omega (arith, total, length-blank)) (fit-values (card .words) hw (fit-in-range card t))
+    fields-putFields _ 0 (omega (arith, total, length-blank)) (fit-values (card .words) (fit-facts card t .words-length) hw (fit-in-range card t))
 
 -- reading what a card wrote: done; each saved entry is that card's, and each other word that of the card lent
 pub record Regained (saved lent : Card) : Type 0 where
@@ -98,7 +99,7 @@ read-written saved lent t hw u =
     let ws = saved .words in
     let img = imageOf ws in
     let e = entriesOf-imageOf saved t hw in
-    let whole = fit-restored lent img u ∙ ap (allInRange savedForm) e ∙ allInRange-values form-sound ws hw (fit-in-range saved t) in
+    let whole = ap (entriesRight savedForm) e ∙ right-values form-sound ws (fit-facts saved t .words-length) hw (fit-in-range saved t) in
     record {
       read = sym (read-done lent img u (length-imageOf ws) (padding-imageOf ws) whole);
       same = λ k h. ap (λ (vs : List ℕ). getD (replaced savedForm (lent .words) vs) k 0) e ∙ replaced-values form-sound ws (lent .words) k hw (omega (arith, fit-facts lent u .words-length)) (inl h);
@@ -136,13 +137,13 @@ written-read card img hs d =
 pub record Accepted (img : List ℕ) : Type 0 where
   pub long : length img ≡ imageSize
   pub padded : paddingOf img ≡ 0
-  pub ranged : allInRange savedForm (entriesOf img) ≡ true
+  pub ranged : entriesRight savedForm (entriesOf img) ≡ true
 
 -- a fit card accepts an image exactly if it is so
 pub accepted : (card : Card) (img : List ℕ) → fit card ≡ true → readImage card img .number ≡ done → Accepted img
 accepted card img t d =
     let r = read-was-done card img d in
-    record { long = r .long; padded = r .padded; ranged = sym (fit-restored card img t) ∙ r .whole }
+    record { long = r .long; padded = r .padded; ranged = r .ranged }
 
 pub accepts : (card : Card) (img : List ℕ) → fit card ≡ true → Accepted img → readImage card img ≡ silent done (restored card img)
-accepts card img t a = sym (read-done card img t (a .long) (a .padded) (fit-restored card img t ∙ a .ranged))
+accepts card img t a = sym (read-done card img t (a .long) (a .padded) (a .ranged))

@@ -14,7 +14,7 @@ use Rattle.card.specs.Layout.{wordCount}
 use Rattle.image.specs.declared.form.Entry.{Entry}
 use Rattle.image.specs.Form.{run, savedForm, holds, widths, used, imageSize}
 use Rattle.image.specs.Saved.{fieldOf, wordOf, values, replaced}
-use Rattle.image.specs.Ranges.{inRange, allInRange}
+use Rattle.image.specs.Ranges.{entryRight, entriesRight}
 use Rattle.image.proofs.Table.{none, entryCount, form-length, form-used}
 use Rattle.image.proofs.Words.{Sound, sound, sound-true, sound-at}
 
@@ -32,9 +32,9 @@ module _ (form : List Entry) (k : ℕ) (h : k < length form) (e : Entry) (is : e
   unfolding widths values putFields
   next-write img p ws = rw next
 
-  pub next-range : (img : List ℕ) (p : ℕ) (ok here : Bool) → here ≡ inRange (e .word) (wordOf e (field img p (e .width)))
-      → (ok && allInRange (drop k form) (fields img p (widths (drop k form)))) ≡ ((ok && here) && allInRange (drop (k + 1) form) (fields img (p + e .width) (widths (drop (k + 1) form))))
-  unfolding widths fields allInRange
+  pub next-range : (img : List ℕ) (p : ℕ) (ok here : Bool) → here ≡ entryRight e (wordOf e (field img p (e .width)))
+      → (ok && entriesRight (drop k form) (fields img p (widths (drop k form)))) ≡ ((ok && here) && entriesRight (drop (k + 1) form) (fields img (p + e .width) (widths (drop (k + 1) form))))
+  unfolding widths fields entriesRight
   next-range img p ok here t = rw (next, t) (and-assoc ok _ _)
 
   pub next-word : (img : List ℕ) (p : ℕ) (ws : List ℕ)

@@ -9,8 +9,9 @@ use Rattle.card.specs.Numbers.{answered, done, cardUnfit, imageLength, imagePad
 use Rattle.card.specs.Layout.{Card}
 use Rattle.card.specs.Fitness.{fit}
 use Rattle.card.specs.Reply.{Reply, silent, sent, shell}
-use Rattle.image.specs.Form.{imageSize}
-use Rattle.image.specs.Saved.{imageOf, paddingOf, restored}
+use Rattle.image.specs.Form.{savedForm, imageSize}
+use Rattle.image.specs.Saved.{imageOf, entriesOf, paddingOf, restored}
+use Rattle.image.specs.Ranges.{entriesRight}
 
 -- writing: 12, then 11 for a buffer below 293 bytes
 unfoldable pub writeImage : Card → ℕ → Reply
@@ -26,5 +27,5 @@ readImage card img =
     unless (fit card) cardUnfit card
     (unless (eqb (length img) imageSize) imageLength card
     (unless (eqb (paddingOf img) 0) imagePadding card
-    (unless (fit (restored card img)) cardUnfit card
+    (unless (entriesRight savedForm (entriesOf img)) cardUnfit card
     (silent done (restored card img)))))

@@ -5,7 +5,7 @@ use mathlib.Core.List.{List, [], _∷_, _++_}
 use lib.Dec.{eqb}
 use Rattle.bits.specs.Fields.{widthOf}
 use Rattle.card.specs.Layout.{iaAt, lecomAddressAt, loveAddressAt, savedRegistersAt, registers, savedParametersAt, parameterCount, loveAt, loveCount}
-use Rattle.card.specs.Fitness.{loveDepth, registerMost}
+use Rattle.card.specs.Fitness.{loveDepth}
 use Rattle.image.specs.declared.form.Entry.{Entry}
 
 -- an entry: the word that it holds, the bits of its field, and what is added to the word there
@@ -27,12 +27,12 @@ lecomWidth = 7
 abbrev pub loveAddressWidth : ℕ
 loveAddressWidth = 10
 
--- "96 saved registers of 21 bits (value plus 999,999)"
+-- "96 saved registers of 21 bits (value plus 999,999)": the form's own bias and range, −999,999 to 999,999
 abbrev pub registerWidth : ℕ
 registerWidth = 21
 
 abbrev pub registerBias : ℕ
-registerBias = registerMost
+registerBias = 999999
 
 -- "saved parameters 32 bits each, channel by channel, 1110h first"
 abbrev pub parameterWidth : ℕ

@@ -1,6 +1,7 @@
 // The image's table. Document 01, "The saved image".
 use card::fitness::LOVE_DEPTH;
-use card::fitness::REGISTER_MOST;
+use card::fitness::in_range;
+use card::fitness::in_span;
 use card::layout::IA;
 use card::layout::LECOM_ADDRESS;
 use card::layout::LOVE;
@@ -17,6 +18,7 @@ ghost use Prim.Native.Nat.{_<_};
 ghost use lib.ListN.{length, getD};
 ghost use Rattle.image.specs.Form.{entryOf, savedForm};
 ghost use Rattle.image.specs.Saved.{fieldOf, wordOf};
+ghost use Rattle.image.specs.Ranges.{entryRight};
 
 // The image's bytes, and the zero bits that it ends with.
 pub const IMAGE: usize = 293;
@@ -32,7 +34,10 @@ const LOVE_ADDRESS_WIDTH: usize = 10;
 
 const REGISTER_WIDTH: usize = 21;
 
-const REGISTER_BIAS: u32 = REGISTER_MOST;
+// The registers' range in this form is its own, from its least to its bias.
+const REGISTER_BIAS: u32 = 999_999;
+
+const REGISTER_LEAST: u32 = u32::MAX - REGISTER_BIAS + 1;
 
 const PARAMETER_WIDTH: usize = 32;
 
@@ -115,4 +120,15 @@ pub fn from_field(e: Entry, v: u32) -> u32
     ensures { λ r. ⌜ r ≡ wordOf e v ⌝ }
 {
     wrapping_sub_u32(v, e.bias)
+}
+
+// Whether the word x of an entry is in the entry's range.
+pub fn entry_right(e: Entry, x: u32) -> bool
+    ensures { λ r. ⌜ r ≡ entryRight e x ⌝ }
+{
+    let word = e.word;
+    if SAVED_REGISTERS <= word {
+        return in_span(x, REGISTER_LEAST, REGISTER_BIAS);
+    }
+    in_range(word, x)
 }

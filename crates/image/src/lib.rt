@@ -5,12 +5,12 @@ use crate::form::ENTRIES;
 use crate::form::IMAGE;
 use crate::form::PADDING;
 use crate::form::entry_at;
+use crate::form::entry_right;
 use crate::form::from_field;
 use crate::form::to_field;
 use bits::take_at;
 use bits::write_field;
 use card::Outcome;
-use card::fitness::in_range;
 use card::fitness::is_fit;
 use card::numbers::ANSWERED;
 use card::numbers::CARD_UNFIT;
@@ -24,7 +24,7 @@ ghost use Rattle.card.specs.Layout.{cardOf, wordCount};
 ghost use Rattle.card.specs.Reply.{Gave, Did};
 ghost use Rattle.image.specs.Form.{savedForm, widths, used, imageSize};
 ghost use Rattle.image.specs.Saved.{values, replaced, imageOf, entriesOf};
-ghost use Rattle.image.specs.Ranges.{allInRange};
+ghost use Rattle.image.specs.Ranges.{entriesRight};
 ghost use Rattle.image.specs.Entries.{writeImage, readImage};
 
 // The entries' fields, from the image's first bit on; gives the place after the last one.
@@ -82,7 +82,7 @@ struct Walked {
 // Walks over the entries, from the image's first bit on. No early exit, so the padding that follows is looked at first.
 fn walk_entries(image: &[u8]) -> Walked
     requires { ⌜ length (now image) ≡ imageSize ⌝ }
-    ensures { λ r. ⌜ (r .fit ≡ allInRange savedForm (entriesOf (now (image .entry)))) × (r .place ≡ used savedForm) ⌝ }
+    ensures { λ r. ⌜ (r .fit ≡ entriesRight savedForm (entriesOf (now (image .entry)))) × (r .place ≡ used savedForm) ⌝ }
 {
     let mut fit = true;
     let mut place: usize = 0;
@@ -90,7 +90,7 @@ fn walk_entries(image: &[u8]) -> Walked
     while k < ENTRIES {
         let e = entry_at(k);
         let taken = take_at(image, place, e.width);
-        let here = in_range(e.word, from_field(e, taken.value));
+        let here = entry_right(e, from_field(e, taken.value));
         fit = fit & here;
         place = taken.place;
         k += 1;

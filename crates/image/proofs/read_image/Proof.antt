@@ -12,11 +12,10 @@ use Rattle.card.specs.Numbers.{cardUnfit, imageLength, imagePadding}
 use Rattle.card.specs.Layout.{cardOf}
 use Rattle.card.specs.Fitness.{fit}
 use Rattle.card.proofs.Facts.{fit-facts}
-use Rattle.card.proofs.Replies.{did-silent, did-as}
+use Rattle.card.proofs.Replies.{did-silent, did-as, same-card}
 use Rattle.image.specs.Form.{padding}
 use Rattle.image.specs.Saved.{restored, paddingOf}
 use Rattle.image.proofs.Table.{form-used}
-use Rattle.image.proofs.Ranges.{fit-restored}
 use Rattle.image.proofs.Outcomes.{read-unfit, read-length, read-padding, read-outside, read-done}
 use Rattle.image.proofs.read_image.Statement.{statement}
 use Rattle.image.proofs.read_image.Tie as tie
@@ -69,7 +68,7 @@ returns-4 c =
     let f = fits (c .before .before .before .before .before .before .before) in
     did-as _ _
     (read-outside _ _ f (c .before .before .before .before .before .before .if2 .left) (sym (last (c .before .before .before .before)) ∙ c .before .before .if3 .left)
-    (fit-restored _ _ f ∙ told-no (c .before .before .before .before .before .walk-entries .ensures .0) (c .if4 .taken)))
+    (told-no (c .before .before .before .before .before .walk-entries .ensures .0) (c .if4 .taken)))
     (did-silent cardUnfit _)
 
 restore-requires : tie.Need-restore-requires
@@ -84,8 +83,8 @@ returns-5 c =
     let f = fits (c .before .before .before .before .before .before .before .before .before .before .before) in
     did-as _ _
     (read-done _ _ f (c .before .before .before .before .before .before .before .before .before .before .if2 .left) (sym (last (c .before .before .before .before .before .before .before .before)) ∙ c .before .before .before .before .before .before .if3 .left)
-    (fit-restored _ _ f ∙ told-yes (c .before .before .before .before .before .before .before .before .before .walk-entries .ensures .0) (c .before .before .before .before .if4 .left)))
-    (record { quiet = refl; numbered = refl; worded = c .before .before .restore .ensures; remembered = refl; pended = refl })
+    (told-yes (c .before .before .before .before .before .before .before .before .before .walk-entries .ensures .0) (c .before .before .before .before .if4 .left)))
+    (record { quiet = refl; numbered = refl; left = same-card (c .before .before .restore .ensures) refl refl })
 
 pub read-image-spec : {M : Type 1} → statement M
 read-image-spec =

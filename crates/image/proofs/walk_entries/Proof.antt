@@ -12,7 +12,7 @@ use Rattle.bits.specs.Reader.{taken}
 use Rattle.bits.specs.declared.Taken.{Taken}
 use Rattle.image.specs.Form.{savedForm, widths, used}
 use Rattle.image.specs.Saved.{wordOf, entriesOf}
-use Rattle.image.specs.Ranges.{inRange, allInRange}
+use Rattle.image.specs.Ranges.{entryRight, entriesRight}
 use Rattle.image.proofs.Table.{entryCount, form-length}
 use Rattle.image.proofs.Steps.{next-width, next-range, next-within, form-end}
 use Rattle.image.proofs.walk_entries.Statement.{statement}
@@ -21,7 +21,7 @@ use Rattle.image.proofs.walk_entries.Tie as tie
 abbrev Inv-loop : tie.InvT-loop
 Inv-loop image fit₀ place₀ k₀ fit place k =
     (k ≤ entryCount) × (place + widthOf (widths (drop k savedForm)) ≡ used savedForm)
-    × ((fit && allInRange (drop k savedForm) (fields image place (widths (drop k savedForm)))) ≡ allInRange savedForm (fields image 0 (widths savedForm)))
+    × ((fit && entriesRight (drop k savedForm) (fields image place (widths (drop k savedForm)))) ≡ entriesRight savedForm (fields image 0 (widths savedForm)))
 
 abbrev μ-loop : tie.MeasureT-loop
 μ-loop image fit₀ place₀ k₀ fit place k = entryCount - k
@@ -41,8 +41,8 @@ take-at-requires c κs =
 from-field-requires : tie.Need-from-field-requires Inv-loop μ-loop
 from-field-requires c κs = tt
 
-in-range-requires : tie.Need-in-range-requires Inv-loop μ-loop
-in-range-requires c κs = tt
+entry-right-requires : tie.Need-entry-right-requires Inv-loop μ-loop
+entry-right-requires c κs = tt
 
 add-k : tie.Need-add-k Inv-loop μ-loop
 add-k c = omega arith
@@ -59,15 +59,15 @@ loop-again c =
     let t = c .before .before .take-at .ensures in
     let p : c .before .before .take-at .result .place ≡ l .place + e .result .width = ap (λ (x : Taken). x .place) t in
     let v : c .before .from-field .result ≡ wordOf (e .result) (field img (l .place) (e .result .width)) = c .before .from-field .ensures ∙ ap (λ (x : Taken). wordOf (e .result) (x .value)) t in
-    let here : c .in-range .result ≡ inRange (e .result .word) (wordOf (e .result) (field img (l .place) (e .result .width))) = c .in-range .ensures ∙ ap (inRange (e .result .word)) v in
+    let here : c .entry-right .result ≡ entryRight (e .result) (wordOf (e .result) (field img (l .place) (e .result .width))) = c .entry-right .ensures ∙ ap (entryRight (e .result)) v in
     let h : l .k + 1 ≤ entryCount = omega arith in (
       h,
       omega (arith, next-width savedForm (l .k) (omega (arith, form-length)) (e .result) (e .ensures), p, l .inv .1),
-      rw p (sym (next-range savedForm (l .k) (omega (arith, form-length)) (e .result) (e .ensures) img (l .place) (l .fit) (c .in-range .result) here) ∙ l .inv .2),
+      rw p (sym (next-range savedForm (l .k) (omega (arith, form-length)) (e .result) (e .ensures) img (l .place) (l .fit) (c .entry-right .result) here) ∙ l .inv .2),
     )
 
 returns : tie.Need-returns Inv-loop μ-loop
-unfolding widths widthOf fields allInRange entriesOf
+unfolding widths widthOf fields entriesRight entriesOf
 returns c =
     let l = c .before .loop in
     let z : l .k ≡ entryCount = omega arith in
@@ -86,7 +86,7 @@ walk-entries-spec =
     entry-at-requires
     take-at-requires
     from-field-requires
-    in-range-requires
+    entry-right-requires
     add-k
     loop-less
     loop-again

@@ -1,4 +1,4 @@
--- What the two entries leave: a refusal changes no table, neither changes memory or the pending change, and a fit card stays fit. Assumes nothing.
+-- What holds of both entries: a refusal changes no table, and neither changes memory or the pending change. Assumes nothing.
 use mathlib.Core.Path.{_≡_, refl}
 use mathlib.Core.Bool.{true}
 use mathlib.Core.List.{List}
@@ -10,8 +10,9 @@ use Rattle.card.specs.Numbers.{done, foreignAddress}
 use Rattle.card.specs.Fitness.{fit}
 use Rattle.card.specs.Reply.{Reply, silent, Keeps}
 use Rattle.card.proofs.Replies.{keeps-silent, shell-keeps}
-use Rattle.image.specs.Form.{imageSize}
-use Rattle.image.specs.Saved.{restored}
+use Rattle.image.specs.Form.{savedForm, imageSize}
+use Rattle.image.specs.Saved.{entriesOf, restored}
+use Rattle.image.specs.Ranges.{entriesRight}
 use Rattle.image.specs.Entries.{writeImage, readImage}
 
 pub write-keeps : (card : Card) (room : ℕ) → Keeps card (writeImage card room)
@@ -19,7 +20,7 @@ unfolding writeImage
 write-keeps card room = shell-keeps imageSize card room _ (record { kept = λ _. refl })
 
 -- what holds of a reply that leaves the card, and of reading done, holds of reading
-by-order : (P : Reply → Type 0) (card : Card) (img : List ℕ) → ((n : ℕ) → P (silent n card)) → (fit card ≡ true → fit (restored card img) ≡ true → P (silent done (restored card img))) → P (readImage card img)
+pub by-order : (P : Reply → Type 0) (card : Card) (img : List ℕ) → ((n : ℕ) → P (silent n card)) → (fit card ≡ true → entriesRight savedForm (entriesOf img) ≡ true → P (silent done (restored card img))) → P (readImage card img)
 unfolding readImage
 by-order P card img stay did =
     by-choice P _ _ _
@@ -37,7 +38,3 @@ read-memory card img = by-order (λ (r : Reply). r .card .memory ≡ card .memor
 pub read-pending : (card : Card) (img : List ℕ) → readImage card img .card .pending ≡ card .pending
 unfolding restored
 read-pending card img = by-order (λ (r : Reply). r .card .pending ≡ card .pending) card img (λ n. refl) (λ _ _. refl)
-
--- a fit card stays fit
-pub read-fit : (card : Card) (img : List ℕ) → fit card ≡ true → fit (readImage card img .card) ≡ true
-read-fit card img t = by-order (λ (r : Reply). fit (r .card) ≡ true) card img (λ n. t) (λ _ f. f)
