@@ -15,8 +15,8 @@ use Rattle.card.specs.Layout.{Card, kindAt}
 use Rattle.card.specs.Change.{noChange, named, echoable, fitPending}
 use Rattle.card.specs.Fitness.{fit}
 use Rattle.card.specs.Reply.{roomLeast}
-use Rattle.card.proofs.Facts.{fit-tables, tables-fit}
-use Rattle.card.proofs.Staying.{IsFit, shell-fit, dropped-fit, length-dropped}
+use Rattle.card.proofs.Facts.{fit-from, fit-facts}
+use Rattle.card.proofs.Fits.{IsFit, shell-fit, dropped-fit, length-dropped}
 use Rattle.datalink.specs.Frame.{numPlace, dataPlace, numIn, addressIn, asked}
 use Rattle.datalink.specs.Answer.{iaOf, interrogated, bodyOf, pended, echoed, changed, appliedTo, applied, acknowledged, obeyed, datalinkReply}
 use Rattle.datalink.specs.declared.frame.Order.{Order}
@@ -53,29 +53,18 @@ unfolding obeyed interrogated echoed pended acknowledged applied appliedTo
 obeyed-fit card f (Refused number) s e = e
 obeyed-fit card f (Interrogate at n) s e = e
 obeyed-fit card f (Change kind num) s e =
-    let t = fit-tables card e in
+    let t = fit-facts card e in
     let l : dataPlace + num ≤ length f = omega (arith, s .0) in
     let body = length-body f kind num (card .pending) l in
-    tables-fit _
-    (record {
-      words-length = t .words-length;
-      memory-length = t .memory-length;
-      pending-length = length-overlay (kind ∷ bodyOf f num) (card .pending) (omega (arith, body, s .1 .0, t .pending-length)) ∙ t .pending-length;
-      words-fit = t .words-fit;
-      pending-fit = pended-fit f kind num (card .pending) l (s .1 .1 .1 .0) (s .1 .1 .1 .1);
-    })
+    fit-from _ (t .words-length) (t .memory-length)
+    (length-overlay (kind ∷ bodyOf f num) (card .pending) (omega (arith, body, s .1 .0, t .pending-length)) ∙ t .pending-length)
+    (t .words-fit) (pended-fit f kind num (card .pending) l (s .1 .1 .1 .0) (s .1 .1 .1 .1))
 obeyed-fit card f Acknowledge s e =
-    let t = fit-tables card e in
+    let t = fit-facts card e in
     by-choice IsFit (eqb (getD (card .pending) kindAt 0) noChange) _ _ (λ _. e)
-    (λ _. tables-fit (applied card)
-    (record {
-      words-length = t .words-length;
-      memory-length = length-changed _ _ _ _ (card .memory) ∙ t .memory-length;
-      pending-length = length-dropped (card .pending) ∙ t .pending-length;
-      words-fit = t .words-fit;
-      pending-fit = dropped-fit (card .pending);
-    }))
+    (λ _. fit-from (applied card) (t .words-length) (length-changed _ _ _ _ (card .memory) ∙ t .memory-length)
+    (length-dropped (card .pending) ∙ t .pending-length) (t .words-fit) (dropped-fit (card .pending)))
 
-pub stays-fit : (card : Card) (room : ℕ) (f : List ℕ) → fit card ≡ true → fit (datalinkReply card room f .card) ≡ true
+pub stays-fit : (card : Card) (room : ℕ) (f : List ℕ) → fit card ≡ true → IsFit (datalinkReply card room f)
 unfolding datalinkReply
 stays-fit card room f e = shell-fit roomLeast card room _ e (obeyed-fit card f (asked (iaOf card) f) (asked-sound f (iaOf card)) e)

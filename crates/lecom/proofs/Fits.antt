@@ -1,30 +1,27 @@
 -- A fit card stays fit, whatever LECOM frame it gets. Assumes nothing.
 use Prim.{Unit, tt}
-use Prim.Native.Nat.{ℕ, _+_, _≤_, _<_}
-use mathlib.Core.Path.{_≡_, _∙_}
+use Prim.Native.Nat.{ℕ, _+_, _≤_}
+use mathlib.Core.Path.{_≡_, sym, _∙_}
 use mathlib.Core.Bool.{Bool, true, false, not}
 use mathlib.Core.List.{List}
 use native.Mathlib.Omega.{arith}
-use borrow.Author.Tests.{le-leb, ltb-true, ltb-false}
+use borrow.Author.Tests.{le-leb, ltb-false}
 use lib.Dec.{leb, ltb, eqb}
 use lib.ListN.{length, getD, drop, set, length-set}
-use lib.Seq.{take-set-le}
 use Rattle.wire.proofs.Tests.{or-true-right}
 use Rattle.wire.specs.Choose.{choose}
-use Rattle.wire.specs.Buffer.{put, part}
 use Rattle.wire.specs.Word.{minus}
 use Rattle.wire.proofs.Cases.{by-choice}
-use Rattle.wire.proofs.Buffers.{part-set}
 use Rattle.figures.specs.Figure.{decimal, allFigures}
 use Rattle.figures.specs.Decimal.{valueOf}
 use Rattle.figures.specs.Signed.{minusChar, withSign, figuresOf, parsedOf}
 use Rattle.figures.specs.declared.Parsed.{Parsed}
-use Rattle.card.specs.Layout.{Card, registers, bufferAt, operationalAt, savedRegistersAt, wordCount}
-use Rattle.card.specs.Fitness.{inSpan, fitWords, fit, registerMost}
+use Rattle.card.specs.Layout.{Card, bufferAt, operationalAt, savedRegistersAt}
+use Rattle.card.specs.Fitness.{inSpan, fit, registerMost}
 use Rattle.card.specs.Reply.{onWords, roomLeast}
-use Rattle.card.proofs.Facts.{allIn-set, fit-tables, fit-words}
-use Rattle.card.proofs.Changed.{registers-changed, length-copied, copied-fit}
-use Rattle.card.proofs.Staying.{IsFit, shell-fit, words-reply-fit}
+use Rattle.card.proofs.Facts.{fit-facts}
+use Rattle.card.proofs.Ranges.{at-register, set-fit}
+use Rattle.card.proofs.Fits.{IsFit, shell-fit, words-reply-fit, Good, good-registers}
 use Rattle.lecom.specs.Frame.{firstProbe, activate, isWrite, dataOf, dataRead, valueIn, orderIn, asked}
 use Rattle.lecom.specs.Answer.{activated, stored, written, obeyed, addressOf, lecomReply}
 use Rattle.lecom.specs.declared.frame.Order.{Order}
@@ -82,25 +79,15 @@ unfolding orderIn
 within f = by-order f Within (λ _. tt) (λ _ _ _. tt) (λ _ _. by-choice Within (isWrite f) _ _ (λ _. data-range f) (λ _. tt))
 
 -- what a write makes of the words: as many, and all in range
-module _ (ws : List ℕ) (long : length ws ≡ wordCount) (fits : fitWords ws ≡ true) where
-  stored-fit : (k value : ℕ) → k < firstProbe → inRange value ≡ true → fitWords (set ws (bufferAt + k) value) ≡ true
-  stored-fit k value l h =
-      registers-changed ws (set ws (bufferAt + k) value) fits (take-set-le bufferAt ws (bufferAt + k) value (omega arith))
-      (rw (part-set ws bufferAt wordCount k value (omega arith)) (allIn-set (minus registerMost) registerMost (part ws bufferAt wordCount) k value (fit-words ws fits .registers) h))
-
-  written-fit : (code value : ℕ) → inRange value ≡ true → (length (written ws code value) ≡ wordCount) × (fitWords (written ws code value) ≡ true)
-  unfolding written activated stored
-  written-fit code value h =
-      by-choice Good (ltb code firstProbe) _ _
-      (λ l. (length-set ws (bufferAt + code) value ∙ long, stored-fit code value (ltb-true code firstProbe l) h))
-      (λ _. by-choice Good (eqb value 0) _ _ (λ _. (long, fits))
-      (λ _. by-choice Good (eqb code activate) _ _ (λ _. copied bufferAt operationalAt (omega arith) (omega arith) (omega arith) (omega arith)) (λ _. copied operationalAt savedRegistersAt (omega arith) (omega arith) (omega arith) (omega arith))))
-    where
-      Good : List ℕ → Type 0
-      Good words = (length words ≡ wordCount) × (fitWords words ≡ true)
-
-      copied : (from to : ℕ) → bufferAt ≤ from → bufferAt ≤ to → from + registers ≤ wordCount → to + registers ≤ wordCount → Good (put ws to (part ws from (from + registers)))
-      copied from to a b h k = (length-copied ws from to long h k, copied-fit ws from to long h k a b fits)
+written-fit : (ws : List ℕ) (code value : ℕ) → Good ws → inRange value ≡ true → Good (written ws code value)
+unfolding written activated stored
+written-fit ws code value g h =
+    by-choice Good (ltb code firstProbe) _ _
+    (λ _. record { long = length-set ws (bufferAt + code) value ∙ g .long; fits = set-fit ws (bufferAt + code) value (g .fits) (sym (at-register (bufferAt + code) value (omega arith)) ∙ h) })
+    (λ _. by-choice Good (eqb value 0) _ _ (λ _. g)
+    (λ _. by-choice Good (eqb code activate) _ _
+    (λ _. good-registers bufferAt operationalAt (omega arith) (omega arith) (omega arith) (omega arith) ws g)
+    (λ _. good-registers operationalAt savedRegistersAt (omega arith) (omega arith) (omega arith) (omega arith) ws g)))
 
 obeyed-fit : (card : Card) (f : List ℕ) (o : Order) → Within o → fit card ≡ true → IsFit (onWords card (obeyed (card .words) (card .memory) f o))
 unfolding obeyed
@@ -108,9 +95,9 @@ obeyed-fit card f (Unheard number) w e = e
 obeyed-fit card f (Refused number) w e = e
 obeyed-fit card f (Read code) w e = e
 obeyed-fit card f (Write code value) w e =
-    let t = fit-tables card e in
-    let v = written-fit (card .words) (t .words-length) (t .words-fit) code value w in
-    words-reply-fit card (obeyed (card .words) (card .memory) f (Write code value)) e (v .0) (v .1)
+    let t = fit-facts card e in
+    let v = written-fit (card .words) code value (record { long = t .words-length; fits = t .words-fit }) w in
+    words-reply-fit card (obeyed (card .words) (card .memory) f (Write code value)) e (v .long) (v .fits)
 
 pub stays-fit : (card : Card) (room : ℕ) (f : List ℕ) → fit card ≡ true → IsFit (lecomReply card room f)
 unfolding lecomReply

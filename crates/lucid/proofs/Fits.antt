@@ -1,5 +1,5 @@
 -- A fit card stays fit, whatever LucidControl frame it gets. Assumes nothing.
-use mathlib.Core.Path.{_≡_, refl, _∙_, subst}
+use mathlib.Core.Path.{_≡_, refl, sym, _∙_}
 use mathlib.Core.Bool.{Bool, true}
 use mathlib.Core.List.{List, [], _∷_}
 use Prim.Native.Nat.{ℕ, zero, suc, _+_, _*_, _/_, _%_, _≤_, _<_}
@@ -7,94 +7,53 @@ use native.Mathlib.Omega.{arith}
 use borrow.Author.Tests.{le-leb}
 use lib.Dec.{eqb}
 use lib.ListN.{length, getD, set, length-set}
-use lib.Seq.{take-set-le, drop-set-lt}
-use Rattle.wire.proofs.Tests.{and-true}
 use Rattle.wire.specs.Choose.{choose}
-use Rattle.wire.specs.Buffer.{part}
 use Rattle.wire.proofs.Cases.{by-choice}
-use Rattle.wire.proofs.Buffers.{part-set}
-use Rattle.card.specs.Layout.{Card, demandsAt, channels, parametersAt, parameterCount, savedParametersAt, bufferAt}
-use Rattle.card.specs.Fitness.{inSpan, fitWords, fit, demandMost, cycleLeast, cycleMost, cycleDefault, floorMost, floorDefault}
-use Rattle.card.specs.Scans.{fitParameters}
+use Rattle.card.specs.Layout.{Card, demandsAt, channels, parametersAt, parameterCount, savedParametersAt}
+use Rattle.card.specs.Fitness.{inSpan, inRange, fitWords, fit, demandMost, cycleDefault, floorDefault}
 use Rattle.card.specs.Reply.{WordsReply, onWords, roomLeast}
-use Rattle.card.proofs.Facts.{allIn-set, fit-tables, fit-words}
-use Rattle.card.proofs.Changed.{demands-changed, parameters-changed}
-use Rattle.card.proofs.Staying.{IsFit, shell-fit, words-reply-fit}
+use Rattle.card.proofs.Facts.{fit-facts}
+use Rattle.card.proofs.Ranges.{at-demand, at-cycle, at-floor, parameter-copy, set-fit}
+use Rattle.card.proofs.Fits.{IsFit, shell-fit, words-reply-fit}
 use Rattle.lucid.specs.Form.{lengthRight, channelsFrom, numberAt}
 use Rattle.lucid.specs.Frame.{asked}
 use Rattle.lucid.specs.Stages.{Placed}
 use Rattle.lucid.specs.Answer.{demanded, stored, reset, changed, obeyed, lucidWords, lucidReply}
 use Rattle.lucid.specs.declared.frame.Order.{Order}
 use Rattle.lucid.specs.declared.frame.Order.the-variants.{Refused, GetIo, SetIo, GetParam, SetParam, Reset}
-use Rattle.lucid.proofs.Judged.{parameterFits, Ranged, safe}
+use Rattle.lucid.proofs.Judged.{Ranged, safe}
 
--- a word of the demands or the parameters becomes another
-
-pub demand-fit : (ws : List ℕ) (k v : ℕ) → k < channels → v ≤ demandMost → fitWords ws ≡ true → fitWords (set ws (demandsAt + k) v) ≡ true
-unfolding inSpan choose
-demand-fit ws k v h l fine =
-    demands-changed ws (set ws (demandsAt + k) v) fine
-    (take-set-le demandsAt ws (demandsAt + k) v (omega arith))
-    (drop-set-lt parametersAt ws (demandsAt + k) v (omega arith))
-    (rw (part-set ws demandsAt parametersAt k v (omega arith)) (allIn-set 0 demandMost (part ws demandsAt parametersAt) k v (fit-words ws fine .demands) within))
-  where
-    within : inSpan 0 demandMost v ≡ true
-    within = rw (le-leb 0 v (omega arith), le-leb v demandMost l)
-
--- a value of the right range stored among pairs of parameters
-parameters-set : (s : List ℕ) (k v : ℕ) → fitParameters s ≡ true → parameterFits k v ≡ true → fitParameters (set s k v) ≡ true
-unfolding fitParameters parameterFits choose
-parameters-set [] k v e h = refl
-parameters-set (x ∷ []) zero v e h = refl
-parameters-set (x ∷ []) (suc k) v e h = refl
-parameters-set (x ∷ y ∷ s) zero v e h = rw h (and-true (inSpan cycleLeast cycleMost x) _ e .1)
-parameters-set (x ∷ y ∷ s) (suc zero) v e h =
-    let a = and-true (inSpan cycleLeast cycleMost x) _ e in
-    rw (a .0, h) (and-true (inSpan 0 floorMost y) _ (a .1) .1)
-parameters-set (x ∷ y ∷ s) (suc (suc k)) v e h =
-    let a = and-true (inSpan cycleLeast cycleMost x) _ e in
-    let b = and-true (inSpan 0 floorMost y) _ (a .1) in
-    let m : suc (suc k) % 2 ≡ k % 2 = omega arith in
-    rw (a .0, b .0) (parameters-set s k v (b .1) (rw m at h))
-
-pub parameter-fit : (ws : List ℕ) (k v : ℕ) → k < parameterCount + parameterCount → parameterFits k v ≡ true → fitWords ws ≡ true → fitWords (set ws (parametersAt + k) v) ≡ true
-parameter-fit ws k v h f fine =
-    parameters-changed ws (set ws (parametersAt + k) v) fine
-    (take-set-le parametersAt ws (parametersAt + k) v (omega arith))
-    (drop-set-lt bufferAt ws (parametersAt + k) v (omega arith))
-    (rw (part-set ws parametersAt bufferAt k v (omega arith)) (parameters-set (part ws parametersAt bufferAt) k v (fit-words ws fine .parameters) f))
-
-stored-fit : (place : ℕ) (saved : Bool) (v : ℕ) (ws : List ℕ) → place < parameterCount → parameterFits place v ≡ true → fitWords ws ≡ true → fitWords (stored place saved v ws) ≡ true
-unfolding stored parameterFits
-stored-fit place saved v ws h f fine =
-    let once = parameter-fit ws place v (omega arith) f fine in
-    let e : parametersAt + (parameterCount + place) ≡ savedParametersAt + place = omega arith in
-    let m : (parameterCount + place) % 2 ≡ place % 2 = omega arith in
+stored-fit : (place : ℕ) (saved : Bool) (v : ℕ) (ws : List ℕ) → place < parameterCount → inRange (parametersAt + place) v ≡ true → fitWords ws ≡ true → fitWords (stored place saved v ws) ≡ true
+unfolding stored
+stored-fit place saved v ws h r fine =
+    let once = set-fit ws (parametersAt + place) v fine r in
     by-choice (λ (l : List ℕ). fitWords l ≡ true) saved _ _
-    (λ _. subst (λ (n : ℕ). fitWords (set (set ws (parametersAt + place) v) n v) ≡ true) e (parameter-fit (set ws (parametersAt + place) v) (parameterCount + place) v (omega arith) (rw m f) once))
+    (λ _. set-fit (set ws (parametersAt + place) v) (savedParametersAt + place) v once (parameter-copy place v h ∙ r))
     (λ _. once)
 
 reset-fit : (channel : ℕ) (saved : Bool) (ws : List ℕ) → channel < channels → fitWords ws ≡ true → fitWords (reset channel saved ws) ≡ true
-unfolding reset parameterFits inSpan choose
+unfolding reset inSpan choose
 reset-fit channel saved ws h fine =
-    let even : 2 * channel % 2 ≡ 0 = omega arith in
-    let odd : (2 * channel + 1) % 2 ≡ 1 = omega arith in
-    stored-fit (2 * channel + 1) saved floorDefault _ (omega arith) (rw odd) (stored-fit (2 * channel) saved cycleDefault ws (omega arith) (rw even) fine)
+    let cycle : inRange (parametersAt + 2 * channel) cycleDefault ≡ true = sym (at-cycle (parametersAt + 2 * channel) cycleDefault (omega arith) (omega arith) (omega arith)) in
+    let floor : inRange (parametersAt + (2 * channel + 1)) floorDefault ≡ true = sym (at-floor (parametersAt + (2 * channel + 1)) floorDefault (omega arith) (omega arith) (λ n. omega arith)) in
+    stored-fit (2 * channel + 1) saved floorDefault _ (omega arith) floor (stored-fit (2 * channel) saved cycleDefault ws (omega arith) cycle fine)
 
 -- a frame is bytes
 abbrev pub Bytes : List ℕ → Type 0
 Bytes f = (i : ℕ) → getD f i 0 < 256
 
 demanded-fit : (n k mask : ℕ) (f : List ℕ) (at : ℕ) (ws : List ℕ) → k + n ≤ channels → Bytes f → fitWords ws ≡ true → fitWords (demanded (channelsFrom n k mask) f at ws) ≡ true
-unfolding channelsFrom demanded numberAt
+unfolding channelsFrom demanded numberAt inSpan choose
 demanded-fit zero k mask f at ws h b fine = fine
 demanded-fit (suc n) k mask f at ws h b fine =
     by-choice (λ (ks : List ℕ). fitWords (demanded ks f at ws) ≡ true) (eqb (mask % 2) 1) _ _
-    (λ _. demanded-fit n (suc k) (mask / 2) f (at + 2) (set ws (demandsAt + k) (numberAt 2 f at)) (omega arith) b (demand-fit ws k (numberAt 2 f at) (omega arith) pair fine))
+    (λ _. demanded-fit n (suc k) (mask / 2) f (at + 2) (set ws (demandsAt + k) (numberAt 2 f at)) (omega arith) b (set-fit ws (demandsAt + k) (numberAt 2 f at) fine pair))
     (λ _. demanded-fit n (suc k) (mask / 2) f at ws (omega arith) b fine)
   where
-    pair : numberAt 2 f at ≤ demandMost
-    pair = omega (arith, b at, b (at + 1))
+    pair : inRange (demandsAt + k) (numberAt 2 f at) ≡ true
+    pair =
+        let most : numberAt 2 f at ≤ demandMost = omega (arith, b at, b (at + 1)) in
+        sym (at-demand (demandsAt + k) (numberAt 2 f at) (omega arith) (omega arith)) ∙ rw (le-leb 0 (numberAt 2 f at) (omega arith), le-leb (numberAt 2 f at) demandMost most)
 
 -- no table changes its length
 
@@ -130,7 +89,7 @@ changed-fit ws f (Reset channel saved) b k r fine = reset-fit channel saved ws k
 
 obeyed-fit : (card : Card) (f : List ℕ) (order : Order) → Bytes f → Placed order → Ranged order → fit card ≡ true → IsFit (onWords card (obeyed (card .words) (card .memory) f order))
 obeyed-fit card f order b k r e =
-    let t = fit-tables card e in
+    let t = fit-facts card e in
     words-reply-fit card (obeyed (card .words) (card .memory) f order) e
     (length-changed (card .words) f order ∙ t .words-length)
     (changed-fit (card .words) f order b k r (t .words-fit))

@@ -3,15 +3,16 @@ use mathlib.Core.Path.{_≡_, refl, sym, ap, _∙_}
 use mathlib.Core.Bool.{Bool, true, false, not}
 use mathlib.Core.List.{List}
 use Prim.{Unit, tt}
-use Prim.Native.Nat.{ℕ, _+_, _*_, _%_, _<_}
+use Prim.Native.Nat.{ℕ, _+_, _*_, _<_}
 use native.Mathlib.Omega.{arith}
 use borrow.Author.Tests.{eqb-true}
 use lib.Dec.{eqb}
 use lib.ListN.{length}
 use Rattle.wire.specs.Choose.{choose}
 use Rattle.wire.proofs.Cases.{by-choice, yes, no}
-use Rattle.card.specs.Layout.{channels, parameterCount}
-use Rattle.card.specs.Fitness.{inSpan, cycleLeast, cycleMost, floorMost}
+use Rattle.card.specs.Layout.{channels, parametersAt, parameterCount}
+use Rattle.card.specs.Fitness.{inSpan, inRange as inWordRange, cycleLeast, cycleMost, floorMost}
+use Rattle.card.proofs.Ranges.{at-cycle, at-floor}
 use Rattle.lucid.specs.Form.{fieldAt, getParam, cycleAddress, channelsOf, demand, demandSize, sizeOf}
 use Rattle.lucid.specs.Frame.{isGet, isSet, isReset, opcKnown, channelRight, typeWritable, maskOf, lenFor, addressIn, valueIn, inRange, valueRight, placeOf, orderedParameter, ordered, asked, opcIn, p1In, p2In, lenIn}
 use Rattle.lucid.specs.Stages.{parameterAsked, optionAsked, Sized, Placed, Supplied}
@@ -20,16 +21,12 @@ use Rattle.lucid.specs.declared.frame.Order.the-variants.{Refused, GetIo
 use Rattle.lucid.proofs.Bools.{or-right}
 use Rattle.lucid.proofs.Lengths.{single-channel, has-value}
 
--- a value is in the range of the parameter at a place: 1110h at the even ones, 1120h at the odd
-unfoldable pub parameterFits : ℕ → ℕ → Bool
-parameterFits place value = choose (eqb (place % 2) 0) (inSpan cycleLeast cycleMost value) (inSpan 0 floorMost value)
-
 abbrev pub Ranged : Order → Type 0
 Ranged (Refused number status) = Unit {0}
 Ranged (GetIo kind mask) = Unit {0}
 Ranged (SetIo mask) = Unit {0}
 Ranged (GetParam place) = Unit {0}
-Ranged (SetParam place saved value) = parameterFits place value ≡ true
+Ranged (SetParam place saved value) = inWordRange (parametersAt + place) value ≡ true
 Ranged (Reset channel saved) = Unit {0}
 
 abbrev pub Safe : List ℕ → Order → Type 0
@@ -39,19 +36,13 @@ place-within : (channel address : ℕ) → channel < channels → placeOf channe
 unfolding placeOf
 place-within channel address h = by-choice (λ (n : ℕ). n < parameterCount) _ _ _ (λ _. omega arith) (λ _. omega arith)
 
-place-fits : (channel address value : ℕ) → inRange address value ≡ true → parameterFits (placeOf channel address) value ≡ true
-unfolding inRange placeOf parameterFits choose
-place-fits channel address value = by (eqb address cycleAddress)
+place-fits : (channel address value : ℕ) → channel < channels → inRange address value ≡ true → inWordRange (parametersAt + placeOf channel address) value ≡ true
+unfolding inRange placeOf choose
+place-fits channel address value h = by (eqb address cycleAddress)
   where
-    even : 2 * channel % 2 ≡ 0
-    even = omega arith
-
-    odd : (2 * channel + 1) % 2 ≡ 1
-    odd = omega arith
-
-    by : (t : Bool) → choose t (inSpan cycleLeast cycleMost value) (inSpan 0 floorMost value) ≡ true → parameterFits (choose t (2 * channel) (2 * channel + 1)) value ≡ true
-    by true e = rw even e
-    by false e = rw odd e
+    by : (t : Bool) → choose t (inSpan cycleLeast cycleMost value) (inSpan 0 floorMost value) ≡ true → inWordRange (parametersAt + choose t (2 * channel) (2 * channel + 1)) value ≡ true
+    by true e = sym (at-cycle (parametersAt + 2 * channel) value (omega arith) (omega arith) (omega arith)) ∙ e
+    by false e = sym (at-floor (parametersAt + (2 * channel + 1)) value (omega arith) (omega arith) (λ n. omega arith)) ∙ e
 
 module _ (f : List ℕ) where
   -- a test, of which the other way is a refusal
@@ -69,9 +60,9 @@ module _ (f : List ℕ) where
         sized .measured ∙ ap (λ (n : ℕ). fieldAt + n) (sym len ∙ ap (λ (n : ℕ). n * length (channelsOf (maskOf opc p1))) (sym size))
 
     -- the value of a SetParam that passed the test of its value
-    value-fits : valueRight opc p2 f ≡ true → isGet opc ≡ false → isSet opc ≡ false → isReset opc p2 ≡ false → eqb opc getParam ≡ false → parameterFits (placeOf p1 (addressIn f)) (valueIn f) ≡ true
+    value-fits : valueRight opc p2 f ≡ true → isGet opc ≡ false → isSet opc ≡ false → isReset opc p2 ≡ false → eqb opc getParam ≡ false → inWordRange (parametersAt + placeOf p1 (addressIn f)) (valueIn f) ≡ true
     unfolding valueRight
-    value-fits v g s r n = place-fits p1 (addressIn f) (valueIn f) (yes _ _ _ _ (has-value opc p1 p2 f sized g s r n) refl ∙ v)
+    value-fits v g s r n = place-fits p1 (addressIn f) (valueIn f) (single-channel opc p1 p2 f sized g s) (yes _ _ _ _ (has-value opc p1 p2 f sized g s r n) refl ∙ v)
 
     safe-order : typeWritable opc p2 ≡ true → valueRight opc p2 f ≡ true → Safe f (ordered opc p1 p2 f)
     unfolding ordered orderedParameter

@@ -22,7 +22,7 @@ obey-requires c κs =
     let passed = c .before .before in
     let p = early-none _ _ _ (passed .before .stop-early .ensures) (passed .if1 .left) in
     let f = fit-facts _ (p .0) in
-    ((f .words-length, f .love-most), (f .memory-length, p .1))
+    ((f .words-length, f .love-address), (f .memory-length, p .1))
 
 same-length-2 : tie.Need-same-length-2
 same-length-2 c = search needs

@@ -1,6 +1,7 @@
 -- `lecom::answer::acknowledge` meets its contract, test by test. Assumes nothing.
 use Rattle.wire.proofs.Cases.{told-true, told-false}
-use Rattle.lecom.proofs.Writes.{wrote-one, done-quiet, done-sent}
+use Rattle.card.proofs.Replies.{wrote-one}
+use Rattle.lecom.proofs.Writes.{done-quiet, done-sent}
 use borrow.Author.Needs.{needs}
 use Rattle.lecom.proofs.answer.acknowledge.Statement.{statement}
 use Rattle.lecom.proofs.answer.acknowledge.Tie as tie

@@ -1,7 +1,8 @@
 -- `lecom::answer::obey` meets its contract, order by order. Assumes nothing.
 use mathlib.Core.Path.{sym, _∙_}
 use Rattle.lecom.specs.declared.frame.Order.the-variants.{Unheard, Refused, Read, Write}
-use Rattle.lecom.proofs.Orders.{known, gave-order, gave-leaving, gave-unheard}
+use Rattle.card.proofs.Replies.{gave-leaving}
+use Rattle.lecom.proofs.Orders.{known, gave-order, gave-unheard}
 use Rattle.lecom.specs.Answer.{obeyed, addressOf}
 use borrow.Author.Needs.{needs}
 use Rattle.lecom.proofs.answer.obey.Statement.{statement}

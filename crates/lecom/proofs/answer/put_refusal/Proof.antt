@@ -1,7 +1,6 @@
 -- `lecom::answer::put_refusal` meets its contract, test by test. Assumes nothing.
 use Rattle.wire.proofs.Tests.{and-true}
-use Rattle.card.proofs.Replies.{wrote-as}
-use Rattle.lecom.proofs.Writes.{wrote-one}
+use Rattle.card.proofs.Replies.{wrote-as, wrote-one}
 use Rattle.wire.proofs.Cases.{yes, no}
 use borrow.Author.Tests.{eqb-true}
 use mathlib.Core.Path.{refl}

@@ -1,6 +1,7 @@
 -- `lecom::answer::put_unknown` meets its contract, piece by piece. Assumes nothing.
 use native.Mathlib.Omega.{arith}
-use Rattle.lecom.proofs.Writes.{code-most, wrote-set}
+use Rattle.card.proofs.Replies.{wrote-set}
+use Rattle.lecom.proofs.Writes.{code-most}
 use Rattle.lecom.specs.Answer.{unknownBytes}
 use borrow.Author.Needs.{needs}
 use Rattle.lecom.proofs.answer.put_unknown.Statement.{statement}

@@ -2,7 +2,7 @@
 use Rattle.wire.proofs.Cases.{yes, no}
 use borrow.Author.Tests.{lt-ltb, le-ltb}
 use mathlib.Core.Path.{refl}
-use Rattle.lecom.proofs.Writes.{sent-as}
+use Rattle.card.proofs.Replies.{told-as}
 use Rattle.lecom.specs.Answer.{readAnswer}
 use borrow.Author.Needs.{needs}
 use Rattle.lecom.proofs.answer.read.Statement.{statement}
@@ -25,7 +25,7 @@ same-length c = search needs
 
 returns : tie.Need-returns
 unfolding readAnswer
-returns c = sent-as _ _ (yes _ _ _ _ (lt-ltb _ _ (c .before .before .before .before .before .if1 .taken)) refl) (c .before .before .tell .ensures)
+returns c = told-as _ _ (yes _ _ _ _ (lt-ltb _ _ (c .before .before .before .before .before .if1 .taken)) refl) (c .before .before .tell .ensures)
 
 cast-read-probe : tie.Need-cast-read-probe
 cast-read-probe c = search needs
@@ -41,7 +41,7 @@ same-length-2 c = search needs
 
 returns-2 : tie.Need-returns-2
 unfolding readAnswer
-returns-2 c = sent-as _ _ (no _ _ _ _ (le-ltb _ _ (c .before .before .before .before .before .before .if1 .left)) (yes _ _ _ _ (lt-ltb _ _ (c .before .before .before .before .before .if2 .taken)) refl)) (c .before .before .read-probe .ensures)
+returns-2 c = told-as _ _ (no _ _ _ _ (le-ltb _ _ (c .before .before .before .before .before .before .if1 .left)) (yes _ _ _ _ (lt-ltb _ _ (c .before .before .before .before .before .if2 .taken)) refl)) (c .before .before .read-probe .ensures)
 
 tell-requires-2 : tie.Need-tell-requires-2
 tell-requires-2 c κs = search needs
@@ -51,7 +51,7 @@ same-length-3 c = search needs
 
 returns-3 : tie.Need-returns-3
 unfolding readAnswer
-returns-3 c = sent-as _ _ (no _ _ _ _ (le-ltb _ _ (c .before .before .before .before .before .if1 .left)) (no _ _ _ _ (le-ltb _ _ (c .before .before .before .before .if2 .left)) refl)) (c .before .before .tell2 .ensures)
+returns-3 c = told-as _ _ (no _ _ _ _ (le-ltb _ _ (c .before .before .before .before .before .if1 .left)) (no _ _ _ _ (le-ltb _ _ (c .before .before .before .before .if2 .left)) refl)) (c .before .before .tell2 .ensures)
 
 pub read-spec : {M : Type 1} → statement M
 read-spec =
