@@ -133,21 +133,3 @@ module _ (q : Request) (a : Accepted q) (card : Card) where
       (λ _.
       let unit : iaOf card ≡ q .ia = sym (eqb-true (q .ia) (iaOf card) here) in
       inr (record { bytes = rw (unit, head-taken); kept = refl; fitting = t }))))
-
--- another's frame that is no accepted change or acknowledge leaves the card as it was
-pub other-arrives : (card : Card) (room : ℕ) (f : List ℕ) → (writes (asked (iaOf card) f) ≡ true → refused (datalinkReply card room f .number) ≡ true) → datalinkReply card room f .card ≡ card
-unfolding obeyed echoed interrogated acknowledged
-other-arrives card room f = by-shell Quiet card room f (λ _. refl) (λ _. refl) (λ _. by (asked (iaOf card) f))
-  where
-    Quiet : Reply → Type 0
-    Quiet r = (writes (asked (iaOf card) f) ≡ true → refused (r .number) ≡ true) → r .card ≡ card
-
-    never : {A : Type 0} → _≡_ {A = Bool} false true → A
-    never e = let z : _≡_ {A = ℕ} 0 1 = cc in let y : ⊥ = omega arith in absurd y
-
-    by : (o : Order) → (writes o ≡ true → refused (obeyed card f o .number) ≡ true) → obeyed card f o .card ≡ card
-    by (Refused number) h = refl
-    by (Interrogate at n) h = refl
-    by (Change kind num) h = never (h refl)
-    by Acknowledge h =
-        by-choice (λ (r : Reply). (_≡_ {A = Bool} true true → refused (r .number) ≡ true) → r .card ≡ card) (eqb (getD (card .pending) kindAt 0) noChange) _ _ (λ _ _. refl) (λ _ g. never (g refl)) h

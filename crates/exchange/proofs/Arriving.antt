@@ -26,7 +26,8 @@ use Rattle.master.specs.declared.Verdict.{Verdict}
 use Rattle.master.specs.declared.Verdict.the-variants.{Done, Unknown}
 use Rattle.exchange.specs.Line.{Line, refused, afterArrival}
 use Rattle.exchange.proofs.Arrivals.{Turned, Echoed, Applied, Shown, none-arrives, change-arrives, acknowledge-arrives, interrogate-arrives}
-use Rattle.exchange.proofs.Memory.{range, Same, ours-pended, same-pended, none-applied, asked-applied}
+use Rattle.calls.proofs.Memory.{Same}
+use Rattle.exchange.proofs.Memory.{range, ours-pended, same-pended, none-applied, asked-applied}
 use Rattle.exchange.proofs.Invariant.{Every, every-map, Held, EchoHeard, Shows, After, Stand, AtNew, AtChanging, AtAcknowledging, AtReading, AtEnd, InvAt, same-then, then-asked}
 
 -- the round's answers after an arrival: a refused one adds none

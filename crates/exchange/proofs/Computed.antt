@@ -25,15 +25,16 @@ use Rattle.master.specs.Request.{Request, askable, asAsked}
 use Rattle.master.specs.Request.Ask.{bytes}
 use Rattle.master.specs.Frames.{changeFrame, acknowledgeFrame, interrogateFrame, echo, isEcho, isResponse, allAsked, confirms}
 use Rattle.master.specs.Step.{move, stepOf}
-use Rattle.exchange.specs.Calls.{Call, replyOf}
+use Rattle.calls.specs.Calls.{frameReply, replyOf, refused, asksWrite}
+use Rattle.exchange.specs.Calls.{Call}
 use Rattle.exchange.specs.Calls.Choice.{none, answer}
-use Rattle.exchange.specs.Calls.Call.{Step, Arrival, Restart, Datalink, Other}
-use Rattle.exchange.specs.Line.{World, Build, refused, closing, afterStep, afterArrival, afterRestart, called, run}
-use Rattle.exchange.specs.Premise.{writes, AtMostTwice, Quiet, AsWorded}
+use Rattle.exchange.specs.Calls.Call.{Step, Arrival, Other}
+use Rattle.exchange.specs.Line.{World, Build, closing, afterStep, afterArrival, afterRestart, called, run}
+use Rattle.exchange.specs.Premise.{AtMostTwice, Quiet, AsWorded}
 
 -- to unfold this is to unfold every definition of a run
 unfoldable pub computed : Unit {0}
-unfolding choose put overlay total sumOf inSpan allIn inMemory namesReadOnly named numRight echoable addressOf fitPending fitAddresses fitParameters fitWords fit shell guarded withCode setCode fullDemands restoredParameters registersTo restoredRegisters dropped faulted restarted restart iaIn commandIn numIn addressIn framed commandKnown kindOf kindIn namedIn isAcknowledge carried lengthRight formRight lrcRight rangeRight changeAllowed changeRight orderIn asked response iaOf shown interrogated bodyOf pended echoed newByte changed appliedTo applied acknowledged obeyed datalinkReply askable asAsked changeFrame acknowledgeFrame interrogateFrame same echo isEcho isResponse allAsked confirms move stepOf replyOf closing afterStep afterArrival afterRestart called run
+unfolding choose put overlay total sumOf inSpan inMemory namesReadOnly named numRight echoable addressOf fitPending inRange inRanges fitWords fit shell guarded withCode setCode fullDemands restoredParameters registersTo restoredRegisters dropped faulted restarted restart iaIn commandIn numIn addressIn framed commandKnown kindOf kindIn namedIn isAcknowledge carried lengthRight formRight lrcRight rangeRight changeAllowed changeRight orderIn asked response iaOf shown interrogated bodyOf pended echoed newByte changed appliedTo applied acknowledged obeyed datalinkReply askable asAsked changeFrame acknowledgeFrame interrogateFrame same echo isEcho isResponse allAsked confirms move stepOf frameReply replyOf closing afterStep afterArrival afterRestart called run
 computed = tt
 
 -- the premise word for word, as a test
@@ -41,9 +42,7 @@ computed = tt
 abbrev allowsCall : {State : Type 0} → Build State → World State → Call → Bool
 allowsCall b w (Step choice room) = true
 allowsCall b w (Arrival room) = leb (w .line .arrivals) 1
-allowsCall b w Restart = true
-allowsCall b w (Datalink room f) = not (writes (asked (iaOf (w .card)) f)) || refused (b .datalink (w .card) room f .number)
-allowsCall b w (Other e) = true
+allowsCall b w (Other e) = not (asksWrite (w .card) e) || refused (b .card (w .card) e .number)
 
 unfoldable pub allows : {State : Type 0} → Build State → Request → World State → List Call → Bool
 allows b q w [] = true
@@ -56,9 +55,7 @@ or-holds false t e h = let z : _≡_ {A = ℕ} 0 1 = cc in let y : ⊥ = omega a
 allowed-call : {State : Type 0} (b : Build State) (w : World State) (c : Call) → allowsCall b w c ≡ true → AtMostTwice w c × Quiet b w c
 allowed-call b w (Step choice room) e = (tt, tt)
 allowed-call b w (Arrival room) e = (leb-true (w .line .arrivals) 1 e, tt)
-allowed-call b w Restart e = (tt, tt)
-allowed-call b w (Datalink room f) e = (tt, or-holds (writes (asked (iaOf (w .card)) f)) (refused (b .datalink (w .card) room f .number)) e)
-allowed-call b w (Other x) e = (tt, tt)
+allowed-call b w (Other x) e = (tt, or-holds (asksWrite (w .card) x) (refused (b .card (w .card) x .number)) e)
 
 pub allowed : {State : Type 0} (b : Build State) (q : Request) (w : World State) (calls : List Call) → allows b q w calls ≡ true → AsWorded b q w calls
 unfolding allows AsWorded

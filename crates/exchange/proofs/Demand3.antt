@@ -18,13 +18,14 @@ use Rattle.master.specs.declared.Phase.{Phase}
 use Rattle.master.specs.declared.Phase.the-variants.{New, Changing, Acknowledging, Reading, EndedDone, EndedUnknown}
 use Rattle.master.specs.declared.Verdict.the-variants.{Open, Done}
 use Rattle.master.proofs.Requests.{accepted}
+use Rattle.calls.specs.Calls.{Call as Entry, frameReply, replyOf}
+use Rattle.calls.specs.Calls.Call.{SetCode, Restart, Governor, Frame, WriteImage, ReadImage}
+use Rattle.calls.proofs.Memory.{Same, mild}
 use Rattle.exchange.specs.Calls.{Call}
-use Rattle.exchange.specs.Calls.Call.{Step, Arrival, Restart, Datalink, Other}
-use Rattle.exchange.specs.Line.{Line, World, changeRound, begin, asWritten, afterRestart, called, run}
+use Rattle.exchange.specs.Calls.Call.{Step, Arrival, Other}
+use Rattle.exchange.specs.Line.{Line, World, changeRound, begin, asWritten, afterRestart, afterOther, called, run}
 use Rattle.exchange.specs.Premise.{Quiet, AllQuiet, AsWorded}
 use Rattle.exchange.specs.Demand.{byteAt, Writable, Named, Old, AsAsked, due, allLossless, Demand3}
-use Rattle.exchange.proofs.Arrivals.{other-arrives}
-use Rattle.exchange.proofs.Memory.{Same, mild-self, mild-restart, mild-entry}
 use Rattle.exchange.proofs.Invariant.{AllNamed, Settled, InvAt, Inv, mildly}
 use Rattle.exchange.proofs.Arriving.{arriving}
 use Rattle.exchange.proofs.Stepping.{settle, stepping}
@@ -41,16 +42,22 @@ restarted-line q start card Reading line v =
 restarted-line q start card EndedDone line v = record { settled = v .settled; frame = v .frame; sure = v .sure; rounds = v .rounds; early = v .early }
 restarted-line q start card EndedUnknown line v = record { settled = v .settled; frame = v .frame; sure = v .sure; rounds = v .rounds; early = v .early }
 
+other-line : (q : Request) (start card : Card) (phase : Phase) (line : Line) (e : Entry) → InvAt q start phase card line → InvAt q start phase card (afterOther line e)
+other-line q start card phase line (SetCode channel code) v = v
+other-line q start card phase line Restart v = restarted-line q start card phase line v
+other-line q start card phase line (Governor channel) v = v
+other-line q start card phase line (Frame dialect room f) v = v
+other-line q start card phase line (WriteImage room) v = v
+other-line q start card phase line (ReadImage img) v = v
+
 module _ (q : Request) (a : Accepted q) (start : Card) where
   -- each call keeps the invariant
   one-call : (w : World Phase) (c : Call) → Quiet asWritten w c → Inv q start w → Inv q start (called asWritten q w c)
-  unfolding called
+  unfolding called replyOf frameReply
   one-call w (Step choice room) h v = stepping q start (w .card) a (w .line) choice (w .state) room v
   one-call w (Arrival room) h v = arriving q a start (w .card) (w .line) room (w .state) v
-  one-call w Restart h v =
-      mildly q start (w .card) _ (mild-restart (w .card)) (w .state) (afterRestart (w .line)) (restarted-line q start (w .card) (w .state) (w .line) v)
-  one-call w (Datalink room f) h v = mildly q start (w .card) _ (mild-self (w .card) _ (other-arrives (w .card) room f h)) (w .state) (w .line) v
-  one-call w (Other e) h v = mildly q start (w .card) _ (mild-entry (w .card) e) (w .state) (w .line) v
+  one-call w (Other e) h v =
+      mildly q start (w .card) _ (mild (w .card) e h) (w .state) (afterOther (w .line) e) (other-line q start (w .card) (w .state) (w .line) e v)
 
   all-calls : (w : World Phase) (calls : List Call) → AllQuiet asWritten q w calls → Inv q start w → Inv q start (run asWritten q w calls)
   unfolding run AllQuiet

@@ -11,7 +11,7 @@ use Rattle.master.specs.declared.Phase.{Phase}
 use Rattle.firmware.specs.Phases.{codeOf, stepInC}
 use Rattle.firmware.proofs.Codes.{phase-back, says-back}
 use Rattle.exchange.specs.Calls.{Call}
-use Rattle.exchange.specs.Calls.Call.{Step, Arrival, Restart, Datalink, Other}
+use Rattle.exchange.specs.Calls.Call.{Step, Arrival, Other}
 use Rattle.exchange.specs.Line.{World, asWritten, begin, heard, afterStep, called, run}
 use Rattle.exchange.specs.Premise.{Quiet, AllQuiet}
 use Rattle.exchange.specs.Demand.{Demand3}
@@ -32,8 +32,6 @@ module _ (q : Request) where
       let got = heard (w .line) choice in
       ap (λ (p : Phase). movedTo w got (stepOf q p got room)) (phase-back (w .state))
   call-coded w (Arrival room) = refl
-  call-coded w Restart = refl
-  call-coded w (Datalink room f) = refl
   call-coded w (Other e) = refl
 
   run-coded : (w : World Phase) (calls : List Call) → run inC q (coded w) calls ≡ coded (run asWritten q w calls)
@@ -44,9 +42,7 @@ module _ (q : Request) where
   quiet-call : (w : World Phase) (c : Call) → Quiet inC (coded w) c → Quiet asWritten w c
   quiet-call w (Step choice room) h = tt
   quiet-call w (Arrival room) h = tt
-  quiet-call w Restart h = tt
-  quiet-call w (Datalink room f) h = h
-  quiet-call w (Other e) h = tt
+  quiet-call w (Other e) h = h
 
   quiet-coded : (w : World Phase) (calls : List Call) → AllQuiet inC q (coded w) calls → AllQuiet asWritten q w calls
   unfolding AllQuiet

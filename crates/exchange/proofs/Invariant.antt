@@ -19,7 +19,8 @@ use Rattle.master.specs.declared.Verdict.{Verdict}
 use Rattle.master.specs.declared.Verdict.the-variants.{Done, Unknown}
 use Rattle.exchange.specs.Line.{Line, World, changeRound, acknowledgeRound, interrogateRound}
 use Rattle.exchange.specs.Demand.{allLossless, due}
-use Rattle.exchange.proofs.Memory.{Range, Same, Ours, None, AskedOf, Mild}
+use Rattle.calls.proofs.Memory.{Same, None, Mild}
+use Rattle.exchange.proofs.Memory.{Range, Ours, AskedOf}
 
 -- what holds of every answer of the round
 abbrev pub Every : (List ℕ → Type 0) → List (List ℕ) → Type 0

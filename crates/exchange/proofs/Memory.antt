@@ -36,8 +36,7 @@ use Rattle.master.specs.Request.Ask.{bytes, bits}
 use Rattle.master.specs.Accepted.{Accepted}
 use Rattle.master.specs.Frames.{pairs, dataOf, changeBody}
 use Rattle.master.proofs.Frames.{pairs-length, pairs-at}
-use Rattle.exchange.specs.Calls.{Entry, replyOf}
-use Rattle.exchange.specs.Calls.Entry.{SetCode, Governor, Lecom, Love, Lucid, WriteImage, ReadImage}
+use Rattle.calls.proofs.Memory.{Same, None, none-dropped}
 use Rattle.exchange.specs.Demand.{writableRange}
 use Rattle.exchange.proofs.Orders.{kindFor, named-for}
 
@@ -82,23 +81,10 @@ range q e =
     by false true u v f i h = let z : _≡_ {A = ℕ} 0 1 = cc in let y : ⊥ = omega arith in absurd y
     by false false u v f i h = ltb-false (q .address) writableStart v
 
--- memory from 1010h on is the same
-pub record Same (card card′ : Card) : Type 0 where
-  pub at : (j : ℕ) → writableStart - memoryStart ≤ j → getD (card′ .memory) j 0 ≡ getD (card .memory) j 0
-
 -- the master's change is pending
 pub record Ours (q : Request) (pending : List ℕ) : Type 0 where
   pub rest : List ℕ
   pub front : pending ≡ (kindFor (q .ask) ∷ changeBody q) ++ rest
-
--- nothing is pending
-pub record None (pending : List ℕ) : Type 0 where
-  pub kind : getD pending kindAt 0 ≡ noChange
-
-none-dropped : (p : List ℕ) → None (dropped p)
-unfolding dropped
-none-dropped [] = record { kind = refl }
-none-dropped (x ∷ p) = record { kind = refl }
 
 -- the echo: memory stays, and the change is the pending one
 pub ours-pended : (q : Request) (card : Card) → Ours q (pended card (kindFor (q .ask)) (changeBody q) .pending)
@@ -152,74 +138,3 @@ module _ (q : Request) (a : Accepted q) (r : Range q) (card : Card) (e : fit car
             ∙ new-asked (q .ask) (a .pairs) (o .rest) (getD (card .memory) (at + i) 0) i h;
         others = λ j h out. ap (λ (m : List ℕ). getD m j 0) applied-memory ∙ changed-other (kindFor (q .ask)) at sent n (card .memory) j out;
       }
-
--- every other call of the card: memory from 1010h on stays, and the pending change stays or is dropped
-pub record Mild (card card′ : Card) : Type 0 where
-  pub memory : Same card card′
-  pub pending : (card′ .pending ≡ card .pending) ⊎ None (card′ .pending)
-
-pub mild-self : (card card′ : Card) → card′ ≡ card → Mild card card′
-mild-self card card′ e = subst (Mild card) (sym e) (record { memory = record { at = λ j h. refl }; pending = inl refl })
-
-abbrev MildReply : Card → Reply → Type 0
-MildReply card r = Mild card (r .card)
-
-mild-silent : (card : Card) (number : ℕ) → MildReply card (silent number card)
-mild-silent card number = mild-self card card refl
-
-mild-guarded : (card : Card) (r : Reply) → MildReply card r → MildReply card (guarded card r)
-unfolding guarded
-mild-guarded card r m = by-choice (MildReply card) (fit card) _ _ (λ _. m) (λ _. mild-silent card cardUnfit)
-
-mild-shell : (least : ℕ) (card : Card) (room : ℕ) (r : Reply) → MildReply card r → MildReply card (shell least card room r)
-unfolding shell
-mild-shell least card room r m =
-    by-choice (MildReply card) (fit card) _ _ (λ _. by-choice (MildReply card) (leb least room) _ _ (λ _. m) (λ _. mild-silent card bufferShort)) (λ _. mild-silent card cardUnfit)
-
--- a meaning over the words alone
-mild-words : (card card′ : Card) → card′ .memory ≡ card .memory → card′ .pending ≡ card .pending → Mild card card′
-mild-words card card′ m p = record { memory = record { at = λ j h. ap (λ (l : List ℕ). getD l j 0) m }; pending = inl p }
-
-pub mild-restart : (card : Card) → Mild card (restart card .card)
-unfolding restart restarted faulted put
-mild-restart card =
-    mild-guarded card _
-    (record {
-      memory = record {
-        at = λ j h.
-            let u : channels + (j - channels) ≡ j = omega arith in
-            subst (λ (x : ℕ). getD (replicate channels faultCode ++ drop channels (card .memory)) x 0 ≡ getD (card .memory) x 0) u
-            (getD-append-add (replicate channels faultCode) (drop channels (card .memory)) (j - channels) 0 ∙ getD-drop channels (card .memory) (j - channels) 0);
-      };
-      pending = inr (none-dropped (card .pending));
-    })
-
-mild-code : (card : Card) (channel code : ℕ) → MildReply card (setCode card channel code)
-unfolding setCode withCode
-mild-code card channel code =
-    mild-guarded card _
-    (by-choice (MildReply card) (ltb channel channels) _ _
-    (λ t. record { memory = record { at = λ j h. getD-set-other (card .memory) channel j code 0 (λ u. omega (arith, ltb-true channel channels t)) }; pending = inl refl })
-    (λ _. mild-silent card rangeUnknown))
-
-mild-read : (card : Card) (img : List ℕ) → MildReply card (readImage card img)
-unfolding readImage restored
-mild-read card img =
-    by-choice (MildReply card) (fit card) _ _
-    (λ _. by-choice (MildReply card) (eqb (length img) imageSize) _ _
-    (λ _. by-choice (MildReply card) (eqb (paddingOf img) 0) _ _
-    (λ _. by-choice (MildReply card) (fit (restored card img)) _ _ (λ _. mild-words card (restored card img) refl refl) (λ _. mild-silent card cardUnfit))
-    (λ _. mild-silent card imagePadding))
-    (λ _. mild-silent card imageLength))
-    (λ _. mild-silent card cardUnfit)
-
--- a line for each entry
-pub mild-entry : (card : Card) (x : Entry) → Mild card (replyOf card x .card)
-unfolding replyOf lecomReply loveReply lucidReply writeImage
-mild-entry card (SetCode channel code) = mild-code card channel code
-mild-entry card (Governor channel) = mild-self card card refl
-mild-entry card (Lecom room f) = mild-shell roomLeast card room _ (mild-words card _ refl refl)
-mild-entry card (Love room f) = mild-shell roomLeast card room _ (mild-words card _ refl refl)
-mild-entry card (Lucid room f) = mild-shell roomLeast card room _ (mild-words card _ refl refl)
-mild-entry card (WriteImage room) = mild-shell imageSize card room (sent answered (imageOf (card .words)) card) (mild-self card card refl)
-mild-entry card (ReadImage img) = mild-read card img

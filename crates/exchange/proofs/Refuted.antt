@@ -11,10 +11,10 @@ use lib.ListN.{set, getD}
 use Rattle.wire.specs.Choose.{choose}
 use Rattle.card.specs.Numbers.{answered, bufferShort, valueOutside, nothingPending, done}
 use Rattle.card.specs.Layout.{Card, cardOf}
-use Rattle.card.specs.Entries.{restart, withCode}
+use Rattle.card.specs.Entries.{withCode}
 use Rattle.card.specs.Reply.{Reply, silent}
 use Rattle.datalink.specs.Frame.{framed, longest, asked}
-use Rattle.datalink.specs.Answer.{iaOf, appliedTo, datalinkReply}
+use Rattle.datalink.specs.Answer.{iaOf, appliedTo}
 use Rattle.datalink.specs.declared.frame.Order.{Order}
 use Rattle.datalink.specs.declared.frame.Order.the-variants.{Refused, Interrogate, Change, Acknowledge}
 use Rattle.master.specs.Request.{Request, askable}
@@ -25,10 +25,12 @@ use Rattle.master.specs.declared.Phase.{Phase}
 use Rattle.master.specs.declared.Phase.the-variants.{New, Changing, Acknowledging, Reading, EndedDone, EndedUnknown}
 use Rattle.master.specs.declared.Verdict.{Verdict}
 use Rattle.master.specs.declared.Verdict.the-variants.{Open, Done, Unknown}
-use Rattle.exchange.specs.Calls.{Call, Entry, replyOf}
+use Rattle.calls.specs.Calls.{Dialect, Call as Entry, replyOf}
+use Rattle.calls.specs.Calls.Dialect.{Datalink, Lecom, Love, Lucid}
+use Rattle.calls.specs.Calls.Call.{SetCode, Restart, Governor, Frame, WriteImage, ReadImage}
+use Rattle.exchange.specs.Calls.{Call}
 use Rattle.exchange.specs.Calls.Choice.{none}
-use Rattle.exchange.specs.Calls.Call.{Step, Datalink, Other}
-use Rattle.exchange.specs.Calls.Entry.{SetCode, Governor, Lecom, Love, Lucid, WriteImage, ReadImage}
+use Rattle.exchange.specs.Calls.Call.{Step, Other}
 use Rattle.exchange.specs.Line.{Build, begin, asWritten, run}
 use Rattle.exchange.specs.Premise.{AsWorded}
 use Rattle.exchange.specs.Demand.{Writable, Named, Demand3}
@@ -46,12 +48,12 @@ first-named = record { low = lit≤ tt; high = lit< tt }
 -- without the premise
 
 -- another's change, accepted between echo and acknowledge
-another-change : Demand3 asWritten two fresh (run asWritten two (begin asWritten fresh) (alone ∷ arrives ∷ hears ∷ Datalink 38 (framed 0xA3 (body 1 0x1020 (7 ∷ []))) ∷ arrives ∷ [])) → ⊥
+another-change : Demand3 asWritten two fresh (run asWritten two (begin asWritten fresh) (alone ∷ arrives ∷ hears ∷ Other (Frame Datalink 38 (framed 0xA3 (body 1 0x1020 (7 ∷ [])))) ∷ arrives ∷ [])) → ⊥
 unfolding computed
 another-change h = let e : _≡_ {A = ℕ} 7 255 = h .others 0x1020 free not-named in omega arith
 
 -- another's acknowledge, accepted before the first step, where a change is pending from before
-another-acknowledge : Demand3 asWritten two stale (run asWritten two (begin asWritten stale) (Datalink 38 (0x7E ∷ 0x83 ∷ []) ∷ [])) → ⊥
+another-acknowledge : Demand3 asWritten two stale (run asWritten two (begin asWritten stale) (Other (Frame Datalink 38 (0x7E ∷ 0x83 ∷ [])) ∷ [])) → ⊥
 unfolding computed
 another-acknowledge h = let e : _≡_ {A = ℕ} 7 255 = h .others 0x1020 free not-named in omega arith
 
@@ -90,9 +92,7 @@ masterOf new changing acknowledging reading =
       says = saysOf;
       step = λ q phase got room.
           choose (askable q) (choose (leb longest room) (moved new changing acknowledging reading q phase got) (refuses bufferShort phase)) (refuses valueOutside phase);
-      datalink = datalinkReply;
-      restart = restart;
-      entry = replyOf;
+      card = replyOf;
     }
 
 -- what the right master does in each phase
@@ -189,7 +189,7 @@ unfoldable movesWhenRefused : Request → Phase → List ℕ → ℕ → Move Ph
 movesWhenRefused q phase got room = choose (leb longest room) (stepOf q phase got room) (refuses bufferShort EndedDone)
 
 abbrev restless : Build Phase
-restless = record { new = New; says = saysOf; step = movesWhenRefused; datalink = datalinkReply; restart = restart; entry = replyOf }
+restless = record { new = New; says = saysOf; step = movesWhenRefused; card = replyOf }
 
 refute-moves-when-refused : Refuted restless
 unfolding computed allows movesWhenRefused
@@ -208,7 +208,7 @@ abbrev saidAfter : ℕ → Verdict
 saidAfter n = choose (eqb n 4) Done Open
 
 abbrev counts : Build ℕ
-counts = record { new = 0; says = saidAfter; step = λ q n got room. sentAfter q n; datalink = datalinkReply; restart = restart; entry = replyOf }
+counts = record { new = 0; says = saidAfter; step = λ q n got room. sentAfter q n; card = replyOf }
 
 refute-counts : Refuted counts
 unfolding computed allows
@@ -217,8 +217,23 @@ refute-counts =
 
 -- wrong cards, with the right master
 
-abbrev datalinkBy : (Card → ℕ → List ℕ → Reply) → Build Phase
-datalinkBy entry = record { new = New; says = saysOf; step = stepOf; datalink = entry; restart = restart; entry = replyOf }
+abbrev cardBy : (Card → Entry → Reply) → Build Phase
+cardBy replies = record { new = New; says = saysOf; step = stepOf; card = replies }
+
+-- what a call asks of the Datalink entry
+abbrev frameAsks : Card → Dialect → List ℕ → Order
+frameAsks card Datalink f = asked (iaOf card) f
+frameAsks card Lecom f = Refused 0
+frameAsks card Love f = Refused 0
+frameAsks card Lucid f = Refused 0
+
+abbrev asks : Card → Entry → Order
+asks card (SetCode channel code) = Refused 0
+asks card Restart = Refused 0
+asks card (Governor channel) = Refused 0
+asks card (Frame dialect room f) = frameAsks card dialect f
+asks card (WriteImage room) = Refused 0
+asks card (ReadImage img) = Refused 0
 
 -- one that applies a change at its echo, and once more at the acknowledge: the customer's clauses do not catch it, since to ask once more changes nothing; `untouched` does
 unfoldable eagerly : Order → Reply → Reply
@@ -229,7 +244,7 @@ eagerly (Change kind num) r =
 eagerly Acknowledge r = r
 
 abbrev eager : Build Phase
-eager = datalinkBy (λ card room f. eagerly (asked (iaOf card) f) (datalinkReply card room f))
+eager = cardBy (λ card e. eagerly (asks card e) (replyOf card e))
 
 refute-eager : Refuted eager
 unfolding computed allows eagerly
@@ -245,7 +260,7 @@ halved card Acknowledge r =
     record { number = r .number; bytes = r .bytes; card = cardOf (r .card .words) (set (r .card .memory) 0x11 (getD (card .memory) 0x11 0)) (r .card .pending) }
 
 abbrev half : Build Phase
-half = datalinkBy (λ card room f. halved card (asked (iaOf card) f) (datalinkReply card room f))
+half = cardBy (λ card e. halved card (asks card e) (replyOf card e))
 
 second-named : Named two 0x1011
 second-named = record { low = lit≤ tt; high = lit< tt }
@@ -262,15 +277,14 @@ refute-half =
 -- one whose set code takes any channel
 unfoldable anyChannel : Card → Entry → Reply
 anyChannel card (SetCode channel code) = silent done (withCode card channel code)
+anyChannel card Restart = replyOf card Restart
 anyChannel card (Governor channel) = replyOf card (Governor channel)
-anyChannel card (Lecom room f) = replyOf card (Lecom room f)
-anyChannel card (Love room f) = replyOf card (Love room f)
-anyChannel card (Lucid room f) = replyOf card (Lucid room f)
+anyChannel card (Frame dialect room f) = replyOf card (Frame dialect room f)
 anyChannel card (WriteImage room) = replyOf card (WriteImage room)
 anyChannel card (ReadImage img) = replyOf card (ReadImage img)
 
 abbrev unbounded : Build Phase
-unbounded = record { new = New; says = saysOf; step = stepOf; datalink = datalinkReply; restart = restart; entry = anyChannel }
+unbounded = cardBy anyChannel
 
 refute-any-channel : Refuted unbounded
 unfolding computed allows anyChannel

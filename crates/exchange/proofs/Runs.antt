@@ -22,10 +22,12 @@ use Rattle.master.specs.Step.{saysOf}
 use Rattle.master.specs.declared.Phase.{Phase}
 use Rattle.master.specs.declared.Verdict.{Verdict}
 use Rattle.master.specs.declared.Verdict.the-variants.{Open, Done, Unknown}
-use Rattle.exchange.specs.Calls.{Call, replyOf}
+use Rattle.calls.specs.Calls.{frameReply, replyOf}
+use Rattle.calls.specs.Calls.Dialect.{Datalink}
+use Rattle.calls.specs.Calls.Call.{SetCode, Restart, Frame, ReadImage}
+use Rattle.exchange.specs.Calls.{Call}
 use Rattle.exchange.specs.Calls.Choice.{answer}
-use Rattle.exchange.specs.Calls.Call.{Step, Arrival, Restart, Datalink, Other}
-use Rattle.exchange.specs.Calls.Entry.{SetCode, ReadImage}
+use Rattle.exchange.specs.Calls.Call.{Step, Arrival, Other}
 use Rattle.exchange.specs.Line.{World, begin, asWritten, called, run}
 use Rattle.exchange.specs.Demand.{byteAt}
 use Rattle.exchange.proofs.Computed.{computed, allows, fresh, stale, cardWith, two, hears, alone, arrives, whole}
@@ -69,12 +71,12 @@ unfolding computed allows
 unknown-old = record { asked = refl; allowed = refl; said = refl; held = refl }
 
 -- a restart between: the acknowledge finds nothing pending
-restart-between : Runs two fresh (alone ∷ arrives ∷ hears ∷ Restart ∷ arrives ∷ alone ∷ arrives ∷ hears ∷ []) Unknown 0x1010 255
+restart-between : Runs two fresh (alone ∷ arrives ∷ hears ∷ Other Restart ∷ arrives ∷ alone ∷ arrives ∷ hears ∷ []) Unknown 0x1010 255
 unfolding computed allows
 restart-between = record { asked = refl; allowed = refl; said = refl; held = refl }
 
 -- a restart between the change's two arrivals
-restart-harmless : Runs two fresh (alone ∷ arrives ∷ Restart ∷ arrives ∷ hears ∷ arrives ∷ alone ∷ arrives ∷ hears ∷ []) Done 0x1010 8
+restart-harmless : Runs two fresh (alone ∷ arrives ∷ Other Restart ∷ arrives ∷ hears ∷ arrives ∷ alone ∷ arrives ∷ hears ∷ []) Done 0x1010 8
 unfolding computed allows
 restart-harmless = record { asked = refl; allowed = refl; said = refl; held = refl }
 
@@ -94,7 +96,7 @@ unfolding computed allows
 stale-start = record { asked = refl; allowed = refl; said = refl; held = refl }
 
 -- the master's own frames sent once more by others: the acknowledge after the end is refused, and so is the change where the buffer is short
-sent-again : Runs two fresh (whole ++ (Datalink 38 (acknowledgeFrame two) ∷ Datalink 37 (changeFrame two) ∷ [])) Done 0x1010 8
+sent-again : Runs two fresh (whole ++ (Other (Frame Datalink 38 (acknowledgeFrame two)) ∷ Other (Frame Datalink 37 (changeFrame two)) ∷ [])) Done 0x1010 8
 unfolding computed allows
 sent-again = record { asked = refl; allowed = refl; said = refl; held = refl }
 

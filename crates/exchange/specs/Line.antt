@@ -6,25 +6,22 @@ use mathlib.Core.List.{List, [], _∷_}
 use lib.Dec.{leb, ltb, eqb}
 use lib.ListN.{length}
 use Rattle.wire.specs.Choose.{choose}
-use Rattle.card.specs.Numbers.{answered, foreignAddress}
+use Rattle.card.specs.Numbers.{answered}
 use Rattle.card.specs.Layout.{Card}
 use Rattle.card.specs.Change.{noChange}
-use Rattle.card.specs.Entries.{restart}
 use Rattle.card.specs.Reply.{Reply}
 use Rattle.datalink.specs.Frame.{kindIn, isAcknowledge}
-use Rattle.datalink.specs.Answer.{datalinkReply}
 use Rattle.master.specs.Request.{Request}
 use Rattle.master.specs.Step.{Move, saysOf, stepOf}
 use Rattle.master.specs.declared.Verdict.{Verdict}
 use Rattle.master.specs.declared.Phase.{Phase}
 use Rattle.master.specs.declared.Phase.the-variants.{New}
-use Rattle.exchange.specs.Calls.{Choice, Entry, Call, replyOf}
+use Rattle.calls.specs.Calls.{Call as Entry, replyOf, refused}
+use Rattle.calls.specs.Calls.Dialect.{Datalink}
+use Rattle.calls.specs.Calls.Call.{SetCode, Restart, Governor, Frame, WriteImage, ReadImage}
+use Rattle.exchange.specs.Calls.{Choice, Call}
 use Rattle.exchange.specs.Calls.Choice.{none, answer}
-use Rattle.exchange.specs.Calls.Call.{Step, Arrival, Restart, Datalink, Other}
-
--- "Refused is any number but 0 and 1"
-abbrev pub refused : ℕ → Bool
-refused number = leb foreignAddress number
+use Rattle.exchange.specs.Calls.Call.{Step, Arrival, Other}
 
 -- the line: the round that is open and those that were closed. A round is a frame sent by a step, its arrivals and the step after it;
 -- an arrival is that frame reaching the card
@@ -130,19 +127,26 @@ afterRestart line =
       between = line .between || (line .changed && not (line .acknowledged));
     }
 
+-- the line after another call of the card: only a restart is noted
+abbrev pub afterOther : Line → Entry → Line
+afterOther line (SetCode channel code) = line
+afterOther line Restart = afterRestart line
+afterOther line (Governor channel) = line
+afterOther line (Frame dialect room f) = line
+afterOther line (WriteImage room) = line
+afterOther line (ReadImage img) = line
+
 -- A master and a card, so that wrong ones can be put to the claim. The master has a state of any type: a new one's, what the master says
 -- in each, and its step
 pub record Build (State : Type 0) : Type 0 where
   pub new : State
   pub says : State → Verdict
   pub step : Request → State → List ℕ → ℕ → Move State
-  pub datalink : Card → ℕ → List ℕ → Reply
-  pub restart : Card → Reply
-  pub entry : Card → Entry → Reply
+  pub card : Card → Entry → Reply
 
 -- the written meanings, which the entries' contracts equate with the code
 abbrev pub asWritten : Build Phase
-asWritten = record { new = New; says = saysOf; step = stepOf; datalink = datalinkReply; restart = restart; entry = replyOf }
+asWritten = record { new = New; says = saysOf; step = stepOf; card = replyOf }
 
 -- the card's tables, the master's state and the line
 pub record World (State : Type 0) : Type 0 where
@@ -166,11 +170,9 @@ called b q w (Step choice room) =
     let m = b .step q (w .state) got room in
     record { card = w .card; state = m .state; line = afterStep (w .line) got m }
 called b q w (Arrival room) =
-    let r = b .datalink (w .card) room (w .line .frame) in
+    let r = b .card (w .card) (Frame Datalink room (w .line .frame)) in
     record { card = r .card; state = w .state; line = afterArrival (w .line) r }
-called b q w Restart = record { card = b .restart (w .card) .card; state = w .state; line = afterRestart (w .line) }
-called b q w (Datalink room f) = record { card = b .datalink (w .card) room f .card; state = w .state; line = w .line }
-called b q w (Other e) = record { card = b .entry (w .card) e .card; state = w .state; line = w .line }
+called b q w (Other e) = record { card = b .card (w .card) e .card; state = w .state; line = afterOther (w .line) e }
 
 -- what a list of calls makes of a world
 unfoldable pub run : {State : Type 0} → Build State → Request → World State → List Call → World State
