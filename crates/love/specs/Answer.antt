@@ -47,7 +47,7 @@ abbrev pub negative : ℕ
 negative = 0x01
 
 -- the sign of a word in the reply to a read
-unfoldable pub signOf : ℕ → ℕ
+abbrev pub signOf : ℕ → ℕ
 signOf word = choose (isNegative word) negative positive
 
 -- how many figures a number has in a reply

@@ -46,7 +46,7 @@ abbrev pub letters : List ℕ
 letters = 0x4C ∷ 0x4F ∷ 0x56 ∷ 0x45 ∷ []
 
 -- "By the address's hundreds in hex the filter character is taken from the four letters LOVE"
-unfoldable pub filterOf : ℕ → ℕ
+abbrev pub filterOf : ℕ → ℕ
 filterOf address = getD letters (address / loveHundred) 0
 
 -- where a command's two halves stand in the data, and a write's four figures and sign
