@@ -14,40 +14,7 @@ use Rattle.figures.specs.Signed.{withSign}
 use Rattle.card.specs.Numbers.{foreignAddress, frameForm, checkCharacter, commandUnknown, valueOutside}
 use Rattle.card.specs.Layout.{loveAt, loveCount}
 use Rattle.card.specs.Fitness.{inRange, loveHundred}
-use Rattle.love.specs.Form.{
-  lengthRight,
-  stx,
-  etx,
-  filterAt,
-  addressAt,
-  dataAt,
-  tail,
-  filterOf,
-  commandAt,
-  parameterAt,
-  valueAt,
-  signAt,
-  statusCommand,
-  readCommand,
-  writeCommand,
-  sp1,
-  sp2,
-  allo,
-  alhi,
-  plusSign,
-  minusSign,
-  dataLeast,
-  dataMost,
-  statusLength,
-  commandLength,
-  readLength,
-  writeLength,
-  undefinedCommand,
-  checksumError,
-  illegalCharacter,
-  fieldError,
-  outOfRange,
-}
+use Rattle.love.specs.Form.{lengthRight, stx, etx, filterAt, addressAt, dataAt, tail, filterOf, commandAt, parameterAt, valueAt, signAt, statusCommand, readCommand, writeCommand, sp1, sp2, allo, alhi, plusSign, minusSign, dataLeast, dataMost, statusLength, commandLength, readLength, writeLength, undefinedCommand, checksumError, illegalCharacter, fieldError, outOfRange}
 use Rattle.love.specs.declared.frame.Order.{Order}
 use Rattle.love.specs.declared.frame.Order.the-variants.{Silent, Refused, Probe, Read, Write}
 

@@ -12,26 +12,7 @@ use Rattle.figures.specs.Figure.{decimal, hex, allFigures}
 use Rattle.card.specs.Numbers.{foreignAddress, frameForm, checkCharacter, commandUnknown, valueOutside}
 use Rattle.card.specs.Layout.{loveAt, loveCount}
 use Rattle.card.specs.Fitness.{inRange}
-use Rattle.love.specs.Form.{
-  commandAt,
-  parameterAt,
-  valueAt,
-  signAt,
-  statusCommand,
-  readCommand,
-  writeCommand,
-  dataLeast,
-  dataMost,
-  statusLength,
-  commandLength,
-  readLength,
-  writeLength,
-  undefinedCommand,
-  checksumError,
-  illegalCharacter,
-  fieldError,
-  outOfRange,
-}
+use Rattle.love.specs.Form.{commandAt, parameterAt, valueAt, signAt, statusCommand, readCommand, writeCommand, dataLeast, dataMost, statusLength, commandLength, readLength, writeLength, undefinedCommand, checksumError, illegalCharacter, fieldError, outOfRange}
 use Rattle.love.specs.Frame.{silently, unless, dataOf, byteAt, forUnit, checksumRight, parameterOf, signRight, numberIn}
 use Rattle.love.specs.declared.frame.Order.{Order}
 use Rattle.love.specs.declared.frame.Order.the-variants.{Silent, Refused, Probe, Read, Write}

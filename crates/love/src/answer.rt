@@ -107,13 +107,9 @@ fn put_value(out: &mut [u8], address: u32, word: u32) -> usize
 {
     put_unit(out, address);
     figures::put_pair(out, Love::DATA, sign_of(word));
-    figures::put_digits(
-        out,
-        Love::DATA + Love::PAIR,
-        FIGURES,
-        figures::magnitude(word),
-    );
-    put_end(out, Love::DATA + Love::PAIR + FIGURES)
+    let at = Love::DATA + Love::PAIR;
+    figures::put_digits(out, at, FIGURES, figures::magnitude(word));
+    put_end(out, at + FIGURES)
 }
 
 // Writes the reply to 00.

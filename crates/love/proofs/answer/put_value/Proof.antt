@@ -18,8 +18,8 @@ sign-of-requires c κs = search needs
 put-pair-requires : tie.Need-put-pair-requires
 put-pair-requires c κs = search needs
 
-add-put-digits : tie.Need-add-put-digits
-add-put-digits c = search needs
+add-at : tie.Need-add-at
+add-at c = search needs
 
 magnitude-requires : tie.Need-magnitude-requires
 magnitude-requires c κs = search needs
@@ -29,9 +29,6 @@ put-digits-requires c κs = search needs
 
 add-put-end : tie.Need-add-put-end
 add-put-end c = search needs
-
-add-put-end-2 : tie.Need-add-put-end-2
-add-put-end-2 c = search needs
 
 put-end-requires : tie.Need-put-end-requires
 put-end-requires c κs = search needs
@@ -58,11 +55,10 @@ put-value-spec =
     put-unit-requires
     sign-of-requires
     put-pair-requires
-    add-put-digits
+    add-at
     magnitude-requires
     put-digits-requires
     add-put-end
-    add-put-end-2
     put-end-requires
     same-length
     returns)
