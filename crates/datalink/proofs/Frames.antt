@@ -1,64 +1,51 @@
--- What a frame that passed the tests of specs/Frame.antt is known to hold. Assumes nothing.
-use mathlib.Core.Path.{_≡_, refl, sym, ap, _∙_, subst}
+-- What is known of a frame that was judged, and of a change that may be echoed. Assumes nothing.
+use mathlib.Core.Path.{_≡_, refl, ap, _∙_}
 use mathlib.Core.Bool.{Bool, true, false, not}
 use mathlib.Core.List.{List}
 use Prim.{Unit, tt}
-use Prim.Native.Nat.{ℕ, _+_, _≤_, _<_}
+use Prim.Native.Nat.{ℕ, _+_, _/_, _≤_, _<_}
 use native.Mathlib.Omega.{arith}
 use borrow.Author.Tests.{leb-true, eqb-true, eqb-false, ne-eqb}
-use lib.Dec.{leb, eqb, lit≤}
-use lib.ListN.{length}
-use Rattle.wire.proofs.Tests.{and-true}
+use lib.Dec.{leb, eqb}
+use lib.ListN.{length, getD}
 use Rattle.wire.specs.Choose.{choose}
-use Rattle.wire.proofs.Cases.{by-choice, no}
+use Rattle.wire.proofs.Tests.{and-true}
+use Rattle.wire.proofs.Cases.{by-choice}
 use Rattle.card.specs.Numbers.{foreignAddress, frameForm, checkCharacter, commandUnknown, rangeUnknown, readOnly}
-use Rattle.card.specs.Layout.{dataMost}
-use Rattle.card.specs.Change.{noChange, change, changeBits, named, numRight, inMemory, namesReadOnly, echoable, memoryStart, memoryEnd}
-use Rattle.datalink.specs.Frame.{shortest, longest, bareSize, acknowledgeBits, changeCommandBits, changeBitsBits, carried, kindOf, commandIn, numIn, addressIn, kindIn, namedIn, isAcknowledge, lengthRight, formRight, rangeRight, changeAllowed, changeRight, orderIn, unless, asked}
+use Rattle.card.specs.Layout.{kindAt, numAt, lowAddressAt, highAddressAt, dataMost}
+use Rattle.card.specs.Change.{noChange, change, changeBits, named, numRight, inMemory, namesReadOnly, addressOf, echoable, fitPending, memoryStart, memoryEnd}
+use Rattle.datalink.specs.Form.{bareSize, acknowledgeBits, changeCommandBits, changeBitsBits}
+use Rattle.datalink.specs.Frame.{commandIn, numIn, addressIn, isAcknowledge, kindOf, kindIn, namedIn, carried, formRight, rangeRight, changeAllowed, changeRight, ordered, silently, asked}
+use Rattle.datalink.specs.Stages.{orderIn, orderAt}
 use Rattle.datalink.specs.declared.frame.Order.{Order}
-use Rattle.datalink.specs.declared.frame.Order.the-variants.{Refused, Interrogate, Change, Acknowledge}
+use Rattle.datalink.specs.declared.frame.Order.the-variants.{Silent, Interrogate, Change, Acknowledge}
 
-pub length-range : (n : ℕ) → lengthRight n ≡ true → (shortest ≤ n) × (n ≤ longest)
-unfolding lengthRight
-length-range n e =
-    let p = and-true (leb shortest n) (leb n longest) e in
-    (leb-true shortest n (p .0), leb-true n longest (p .1))
+-- The form of a frame that is no Acknowledge
 
--- a frame too short for NUM and address is not of its form
+-- one too short for NUM and address is not of its form
 pub form-short : (f : List ℕ) → (commandIn f ≡ acknowledgeBits → ⊥) → length f < bareSize → false ≡ formRight f
 unfolding formRight isAcknowledge choose
 form-short f a h =
     let long : length f ≡ bareSize + carried (kindIn f) (numIn f) → ⊥ = λ e. let z : ⊥ = omega arith in z in
     rw (ne-eqb (commandIn f) acknowledgeBits a, ne-eqb (length f) (bareSize + carried (kindIn f) (numIn f)) long)
 
--- a frame of its form that is no Acknowledge
 pub form-facts : (f : List ℕ) → (commandIn f ≡ acknowledgeBits → ⊥) → formRight f ≡ true → (length f ≡ bareSize + carried (kindIn f) (numIn f)) × (numRight (kindIn f) (numIn f) ≡ true)
 unfolding formRight isAcknowledge choose
 form-facts f a e =
     let p = and-true (eqb (length f) (bareSize + carried (kindIn f) (numIn f))) (numRight (kindIn f) (numIn f)) (rw (ne-eqb (commandIn f) acknowledgeBits a) at e) in
     (eqb-true (length f) (bareSize + carried (kindIn f) (numIn f)) (p .0), p .1)
 
--- range, read-only and order of an Acknowledge
-pub order-acknowledge : (f : List ℕ) → commandIn f ≡ acknowledgeBits → Acknowledge ≡ unless (rangeRight f) rangeUnknown (unless (changeRight f) readOnly (orderIn f))
-unfolding rangeRight changeRight changeAllowed orderIn isAcknowledge kindIn kindOf choose
+-- Range, read-only and order of an Acknowledge, and of any other frame
+
+pub order-acknowledge : (f : List ℕ) → commandIn f ≡ acknowledgeBits → Acknowledge ≡ orderIn f
+unfolding orderIn rangeRight changeRight changeAllowed ordered isAcknowledge kindIn kindOf choose
 order-acknowledge f e = rw e
 
--- the same of any other frame, of this kind, NUM and address, that names n bytes
-pub order-other : (f : List ℕ) (kind num at n : ℕ) → (commandIn f ≡ acknowledgeBits → ⊥) → kind ≡ kindIn f → num ≡ numIn f → at ≡ addressIn f → n ≡ namedIn f
-    → unless (inMemory at n) rangeUnknown (unless (changeAllowed kind at n) readOnly (choose (eqb kind noChange) (Interrogate at num) (Change kind num)))
-    ≡ unless (rangeRight f) rangeUnknown (unless (changeRight f) readOnly (orderIn f))
-unfolding rangeRight changeRight orderIn isAcknowledge
-order-other f kind num at n a k m t e =
-    let no-ack : eqb (commandIn f) acknowledgeBits ≡ false = ne-eqb (commandIn f) acknowledgeBits a in
-    rw (no-ack, k, m, t, e)
-    (ap (λ (o : Order). unless (inMemory (addressIn f) (namedIn f)) rangeUnknown (unless (changeAllowed (kindIn f) (addressIn f) (namedIn f)) readOnly o)) (no false _ _ _ refl refl))
+pub order-other : (f : List ℕ) → (commandIn f ≡ acknowledgeBits → ⊥) → orderAt (kindIn f) (numIn f) (addressIn f) ≡ orderIn f
+unfolding orderIn orderAt rangeRight changeRight namedIn ordered isAcknowledge choose
+order-other f a = rw (ne-eqb (commandIn f) acknowledgeBits a)
 
--- what an order is known to name
-abbrev pub Sound : List ℕ → Order → Type 0
-Sound f (Refused number) = foreignAddress ≤ number
-Sound f (Interrogate at n) = (bareSize ≤ length f) × ((memoryStart ≤ at) × ((at + n ≤ memoryEnd) × (n ≤ dataMost)))
-Sound f (Change kind num) = (length f ≡ bareSize + num) × ((num ≤ dataMost) × ((kind ≡ noChange → ⊥) × ((num ≡ numIn f) × (echoable kind num (addressIn f) (named kind num) ≡ true))))
-Sound f Acknowledge = Unit {0}
+-- A change that may be echoed
 
 pub memory-facts : (at n : ℕ) → inMemory at n ≡ true → (memoryStart ≤ at) × (at + n ≤ memoryEnd)
 unfolding inMemory
@@ -66,9 +53,45 @@ memory-facts at n e =
     let p = and-true (leb memoryStart at) (leb (at + n) memoryEnd) e in
     (leb-true memoryStart at (p .0), leb-true (at + n) memoryEnd (p .1))
 
-pub num-most : (kind num : ℕ) → numRight kind num ≡ true → num ≤ dataMost
+num-most : (kind num : ℕ) → numRight kind num ≡ true → num ≤ dataMost
 unfolding numRight
 num-most kind num e = leb-true num dataMost (and-true (leb num dataMost) _ e .0)
+
+named-most : (kind num : ℕ) → num ≤ dataMost → (named kind num ≤ dataMost) × (kind ≡ changeBits → named kind num + named kind num ≤ dataMost)
+unfolding named
+named-most kind num h =
+    by-choice (λ (n : ℕ). (n ≤ dataMost) × (kind ≡ changeBits → n + n ≤ dataMost)) (eqb kind changeBits) (num / 2) num
+    (λ _. (omega arith, λ _. omega arith))
+    (λ e. (h, λ k. absurd (eqb-false kind changeBits e k)))
+
+-- it names bytes of memory, no more than its data has
+pub record Named (kind num at : ℕ) : Type 0 where
+  pub start : memoryStart ≤ at
+  pub end : at + named kind num ≤ memoryEnd
+  pub most : named kind num ≤ dataMost
+  pub pairs : kind ≡ changeBits → named kind num + named kind num ≤ dataMost
+
+-- so does the pending change of a fit card, where there is one
+pub pending-named : (p : List ℕ) → fitPending p ≡ true → (getD p kindAt 0 ≡ noChange → ⊥)
+    → Named (getD p kindAt 0) (getD p numAt 0) (addressOf (getD p lowAddressAt 0) (getD p highAddressAt 0))
+unfolding fitPending echoable
+pending-named p e none =
+    let kind = getD p kindAt 0 in
+    let num = getD p numAt 0 in
+    let at = addressOf (getD p lowAddressAt 0) (getD p highAddressAt 0) in
+    let a = and-true (leb kind changeBits) _ (rw (ne-eqb kind noChange none) at e) in
+    let b = and-true (numRight kind num) _ (a .1) in
+    let m = memory-facts at (named kind num) (and-true (inMemory at (named kind num)) _ (b .1) .0) in
+    let n = named-most kind num (num-most kind num (b .0)) in
+    record { start = m .0; end = m .1; most = n .0; pairs = n .1 }
+
+-- What an order is known to name
+
+abbrev pub Sound : List ℕ → Order → Type 0
+Sound f (Silent number) = Unit {0}
+Sound f (Interrogate at n) = (bareSize ≤ length f) × ((memoryStart ≤ at) × ((at + n ≤ memoryEnd) × (n ≤ dataMost)))
+Sound f (Change kind num) = (length f ≡ bareSize + num) × ((num ≤ dataMost) × ((num ≡ numIn f) × (echoable kind num (addressIn f) (named kind num) ≡ true)))
+Sound f Acknowledge = Unit {0}
 
 kind-most : (command : ℕ) → leb (kindOf command) changeBits ≡ true
 unfolding kindOf
@@ -89,11 +112,11 @@ unfolding carried choose
 carried-some kind num e = rw e
 
 module _ (f : List ℕ) where
-  or-refused : (t : Bool) (o : Order) (number : ℕ) → foreignAddress ≤ number → (t ≡ true → Sound f o) → Sound f (unless t number o)
-  or-refused t o number h p = by-choice (Sound f) t o (Refused number) p (λ _. h)
+  or-silent : (t : Bool) (o : Order) (number : ℕ) → (t ≡ true → Sound f o) → Sound f (silently t number o)
+  or-silent t o number p = by-choice (Sound f) t o (Silent number) p (λ _. tt)
 
-  sound-order : formRight f ≡ true → rangeRight f ≡ true → changeRight f ≡ true → Sound f (orderIn f)
-  unfolding orderIn rangeRight changeRight changeAllowed isAcknowledge namedIn kindIn echoable
+  sound-order : formRight f ≡ true → rangeRight f ≡ true → changeRight f ≡ true → Sound f (ordered f)
+  unfolding ordered rangeRight changeRight changeAllowed isAcknowledge namedIn kindIn echoable
   sound-order form range allowed =
       by-choice (Sound f) (eqb (commandIn f) acknowledgeBits) _ _ (λ _. tt)
       (λ a.
@@ -109,15 +132,11 @@ module _ (f : List ℕ) where
       (omega arith, (bounds .0, (omega arith, most))))
       (λ k.
       let writes : not (namesReadOnly (addressIn f) (named (kindIn f) (numIn f))) ≡ true = rw k at allowed in
-      (facts .0 ∙ ap (λ (x : ℕ). bareSize + x) (carried-some (kindIn f) (numIn f) k), (most, (eqb-false (kindIn f) noChange k, (refl, rw (kind-most (commandIn f), facts .1, inside, writes)))))))
+      (facts .0 ∙ ap (λ (x : ℕ). bareSize + x) (carried-some (kindIn f) (numIn f) k), (most, (refl, rw (kind-most (commandIn f), facts .1, inside, writes))))))
 
   pub asked-sound : (ia : ℕ) → Sound f (asked ia f)
   unfolding asked
   asked-sound ia =
-      or-refused _ _ frameForm (lit≤ tt) (λ _. or-refused _ _ frameForm (lit≤ tt) (λ _. or-refused _ _ foreignAddress (lit≤ tt) (λ _. or-refused _ _ commandUnknown (lit≤ tt)
-      (λ _. or-refused (formRight f) _ frameForm (lit≤ tt) (λ form. or-refused _ _ checkCharacter (lit≤ tt)
-      (λ _. or-refused (rangeRight f) _ rangeUnknown (lit≤ tt) (λ range. or-refused (changeRight f) _ readOnly (lit≤ tt) (λ allowed. sound-order form range allowed))))))))
-
--- what is known of an order, once it is known which it is
-pub order-known : (f : List ℕ) (ia : ℕ) (o : Order) → o ≡ asked ia f → Sound f o
-order-known f ia o e = subst (Sound f) (sym e) (asked-sound f ia)
+      or-silent _ _ frameForm (λ _. or-silent _ _ frameForm (λ _. or-silent _ _ foreignAddress (λ _. or-silent _ _ commandUnknown
+      (λ _. or-silent (formRight f) _ frameForm (λ form. or-silent _ _ checkCharacter
+      (λ _. or-silent (rangeRight f) _ rangeUnknown (λ range. or-silent (changeRight f) _ readOnly (λ allowed. sound-order form range allowed))))))))

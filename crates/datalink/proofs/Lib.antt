@@ -1,5 +1,4 @@
 pub mod Frames
-pub mod Responses
-pub mod Pendings
-pub mod Replies
-pub mod Staying
+pub mod Writes
+pub mod Laws
+pub mod Fits

@@ -11,9 +11,10 @@ use Rattle.card.specs.Layout.{Card, cardOf, withPending, iaAt, kindAt, numAt, l
 use Rattle.card.specs.Change.{noChange, changeBits, named, addressOf, memoryStart}
 use Rattle.card.specs.Entries.{dropped}
 use Rattle.card.specs.Reply.{Reply, silent, sent, shell, roomLeast}
-use Rattle.datalink.specs.Frame.{framed, responseBits, numPlace, dataPlace, asked}
+use Rattle.datalink.specs.Form.{framed, responseBits, frameNumAt, frameDataAt}
+use Rattle.datalink.specs.Frame.{asked}
 use Rattle.datalink.specs.declared.frame.Order.{Order}
-use Rattle.datalink.specs.declared.frame.Order.the-variants.{Refused, Interrogate, Change, Acknowledge}
+use Rattle.datalink.specs.declared.frame.Order.the-variants.{Silent, Interrogate, Change, Acknowledge}
 
 -- "Response 20h": a frame whose body is NUM, address and data
 unfoldable pub response : ℕ → List ℕ → List ℕ
@@ -29,11 +30,11 @@ shown card at n = part (card .memory) (at - memoryStart) (at - memoryStart + n)
 
 -- Interrogate: NUM and address as received, and the bytes named. It leaves the pending change
 unfoldable pub interrogated : Card → List ℕ → ℕ → ℕ → Reply
-interrogated card f at n = sent answered (response (iaOf card) (part f numPlace dataPlace ++ shown card at n)) card
+interrogated card f at n = sent answered (response (iaOf card) (part f frameNumAt frameDataAt ++ shown card at n)) card
 
 -- the body of a change of NUM data bytes: NUM, address and data as received
 unfoldable pub bodyOf : List ℕ → ℕ → List ℕ
-bodyOf f num = part f numPlace (dataPlace + num)
+bodyOf f num = part f frameNumAt (frameDataAt + num)
 
 -- "An echoed change becomes the pending one, in place of an older."
 unfoldable pub pended : Card → ℕ → List ℕ → Card
@@ -67,7 +68,7 @@ acknowledged card = choose (eqb (getD (card .pending) kindAt 0) noChange) (silen
 
 -- what the card does with each order
 unfoldable pub obeyed : Card → List ℕ → Order → Reply
-obeyed card f (Refused number) = silent number card
+obeyed card f (Silent number) = silent number card
 obeyed card f (Interrogate at n) = interrogated card f at n
 obeyed card f (Change kind num) = echoed card f kind num
 obeyed card f Acknowledge = acknowledged card

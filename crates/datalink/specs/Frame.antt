@@ -1,88 +1,52 @@
--- What a Datalink frame asks. Document 01, "Datalink", with source document 003:
--- 7Eh; command bits plus I.A.; NUM; low address; high address; data; LRC.
+-- What a Datalink frame asks. Document 01, "Datalink", with source document 003.
 use Prim.Native.Nat.{ℕ, _+_, _-_, _*_, _%_, _/_}
 use mathlib.Core.Bool.{Bool, _&&_, _||_, not}
-use mathlib.Core.List.{List, [], _∷_, _++_}
-use lib.Dec.{leb, eqb}
+use mathlib.Core.List.{List}
+use lib.Dec.{eqb}
 use lib.ListN.{length, getD}
 use Rattle.wire.specs.Choose.{choose}
 use Rattle.wire.specs.Buffer.{part}
 use Rattle.wire.specs.Sum.{sumOf}
 use Rattle.card.specs.Numbers.{foreignAddress, frameForm, checkCharacter, commandUnknown, rangeUnknown, readOnly}
 use Rattle.card.specs.Change.{noChange, change, changeBits, named, numRight, inMemory, namesReadOnly, addressOf}
+use Rattle.datalink.specs.Form.{
+  lengthRight,
+  start,
+  iaValues,
+  interrogateBits,
+  changeCommandBits,
+  changeBitsBits,
+  acknowledgeBits,
+  secondAt,
+  frameNumAt,
+  frameLowAddressAt,
+  frameHighAddressAt,
+  acknowledgeSize,
+  bareSize,
+}
 use Rattle.datalink.specs.declared.frame.Order.{Order}
-use Rattle.datalink.specs.declared.frame.Order.the-variants.{Refused, Interrogate, Change, Acknowledge}
+use Rattle.datalink.specs.declared.frame.Order.the-variants.{Silent, Interrogate, Change, Acknowledge}
 
--- "Datalink 2 and 38": the shortest and the longest frame
-abbrev pub shortest : ℕ
-shortest = 2
-
-abbrev pub longest : ℕ
-longest = 38
-
--- the first byte, 7Eh
-abbrev pub start : ℕ
-start = 0x7E
-
--- the second byte: its low five bits are the I.A., the others the command
-abbrev pub iaValues : ℕ
-iaValues = 32
-
-abbrev pub interrogateBits : ℕ
-interrogateBits = 0xE0
-
-abbrev pub changeBitsBits : ℕ
-changeBitsBits = 0xC0
-
-abbrev pub changeCommandBits : ℕ
-changeCommandBits = 0xA0
-
-abbrev pub acknowledgeBits : ℕ
-acknowledgeBits = 0x80
-
-abbrev pub responseBits : ℕ
-responseBits = 0x20
-
-abbrev pub secondPlace : ℕ
-secondPlace = 1
-
+-- the parts of a frame
 unfoldable pub iaIn : List ℕ → ℕ
-iaIn f = getD f secondPlace 0 % iaValues
+iaIn f = getD f secondAt 0 % iaValues
 
 unfoldable pub commandIn : List ℕ → ℕ
-commandIn f = getD f secondPlace 0 / iaValues * iaValues
-
--- the places of NUM and of the data, and NUM and address
-abbrev pub numPlace : ℕ
-numPlace = 2
-
-abbrev pub lowAddressPlace : ℕ
-lowAddressPlace = 3
-
-abbrev pub highAddressPlace : ℕ
-highAddressPlace = 4
-
-abbrev pub dataPlace : ℕ
-dataPlace = 5
+commandIn f = getD f secondAt 0 / iaValues * iaValues
 
 unfoldable pub numIn : List ℕ → ℕ
-numIn f = getD f numPlace 0
+numIn f = getD f frameNumAt 0
 
 unfoldable pub addressIn : List ℕ → ℕ
-addressIn f = addressOf (getD f lowAddressPlace 0) (getD f highAddressPlace 0)
-
--- the bytes of a frame beside its body of NUM, address and data: 7Eh, the second byte and the LRC
-abbrev pub besideBody : ℕ
-besideBody = 3
-
--- a frame in that form: 7Eh, its second byte, a body of NUM, address and data, and the LRC
-unfoldable pub framed : ℕ → List ℕ → List ℕ
-framed second body = (start ∷ second ∷ body) ++ (sumOf (second ∷ body) ∷ [])
+addressIn f = addressOf (getD f frameLowAddressAt 0) (getD f frameHighAddressAt 0)
 
 -- "Interrogate E0h, Change A0h, Change Bits C0h, Acknowledge 80h"
 unfoldable pub commandKnown : ℕ → Bool
 commandKnown command =
     eqb command acknowledgeBits || (eqb command interrogateBits || (eqb command changeCommandBits || eqb command changeBitsBits))
+
+unfoldable pub isAcknowledge : List ℕ → Bool
+isAcknowledge f = eqb (commandIn f) acknowledgeBits
 
 -- the kind of change that a command asks for
 unfoldable pub kindOf : ℕ → ℕ
@@ -95,23 +59,9 @@ kindIn f = kindOf (commandIn f)
 unfoldable pub namedIn : List ℕ → ℕ
 namedIn f = named (kindIn f) (numIn f)
 
-unfoldable pub isAcknowledge : List ℕ → Bool
-isAcknowledge f = eqb (commandIn f) acknowledgeBits
-
--- an Acknowledge is this long, a frame with NUM this long without its data
-abbrev pub acknowledgeSize : ℕ
-acknowledgeSize = 2
-
-abbrev pub bareSize : ℕ
-bareSize = 6
-
 -- how many data bytes a frame of NUM carries: an Interrogate none
 unfoldable pub carried : ℕ → ℕ → ℕ
 carried kind num = choose (eqb kind noChange) 0 num
-
--- a frame's length lies from the shortest to the longest
-unfoldable pub lengthRight : ℕ → Bool
-lengthRight n = leb shortest n && leb n longest
 
 -- "length and NUM": NUM 0 to 32, even for Change Bits
 unfoldable pub formRight : List ℕ → Bool
@@ -121,7 +71,7 @@ formRight f =
 
 -- "The LRC adds all bytes but the first, 7Eh, and itself; the sum is taken modulo 256." An Acknowledge has none
 unfoldable pub lrcRight : List ℕ → Bool
-lrcRight f = isAcknowledge f || eqb (sumOf (part f secondPlace (length f - 1))) (getD f (length f - 1) 0)
+lrcRight f = isAcknowledge f || eqb (sumOf (part f secondAt (length f - 1))) (getD f (length f - 1) 0)
 
 -- "Address at least 1000h, address plus bytes named at most 2000h." An Acknowledge has no range
 unfoldable pub rangeRight : List ℕ → Bool
@@ -135,24 +85,24 @@ unfoldable pub changeRight : List ℕ → Bool
 changeRight f = changeAllowed (kindIn f) (addressIn f) (namedIn f)
 
 -- what a frame that passed asks
-unfoldable pub orderIn : List ℕ → Order
-orderIn f =
+unfoldable pub ordered : List ℕ → Order
+ordered f =
     choose (isAcknowledge f) Acknowledge
     (choose (eqb (kindIn f) noChange) (Interrogate (addressIn f) (numIn f)) (Change (kindIn f) (numIn f)))
 
--- a test, the number that refuses a frame where it fails, and what comes after it
-abbrev pub unless : Bool → ℕ → Order → Order
-unless test number rest = choose test rest (Refused number)
+-- a test, the number that refuses a frame where it fails, and what comes after it. "All refusals are silent."
+abbrev pub silently : Bool → ℕ → Order → Order
+silently test number rest = choose test rest (Silent number)
 
 -- what a frame asks of the unit at an I.A.: "Order: first byte (3), I.A. (2), command (5), length and NUM (3), LRC (4), range (6), read-only (8)"
 unfoldable pub asked : ℕ → List ℕ → Order
 asked ia f =
-    unless (lengthRight (length f)) frameForm
-    (unless (eqb (getD f 0 0) start) frameForm
-    (unless (eqb (iaIn f) ia) foreignAddress
-    (unless (commandKnown (commandIn f)) commandUnknown
-    (unless (formRight f) frameForm
-    (unless (lrcRight f) checkCharacter
-    (unless (rangeRight f) rangeUnknown
-    (unless (changeRight f) readOnly
-    (orderIn f))))))))
+    silently (lengthRight (length f)) frameForm
+    (silently (eqb (getD f 0 0) start) frameForm
+    (silently (eqb (iaIn f) ia) foreignAddress
+    (silently (commandKnown (commandIn f)) commandUnknown
+    (silently (formRight f) frameForm
+    (silently (lrcRight f) checkCharacter
+    (silently (rangeRight f) rangeUnknown
+    (silently (changeRight f) readOnly
+    (ordered f))))))))

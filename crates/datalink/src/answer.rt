@@ -1,6 +1,5 @@
 // What the card does with a Datalink order.
 use crate::form::Datalink;
-use crate::frame;
 use crate::frame::Order;
 use crate::write::write_frame;
 use card::Outcome;
@@ -27,7 +26,8 @@ ghost use Rattle.card.specs.Change.{changeBits, memoryStart, memoryEnd};
 ghost use Rattle.card.specs.Fitness.{iaMost};
 ghost use Rattle.card.specs.Fit.{Fit};
 ghost use Rattle.card.specs.Reply.{Gave, Did, Wrote, roomLeast};
-ghost use Rattle.datalink.specs.Frame.{besideBody, asked, numPlace, dataPlace, bareSize};
+ghost use Rattle.datalink.specs.Form.{frameNumAt, frameDataAt, besideBody, bareSize};
+ghost use Rattle.datalink.specs.Frame.{asked};
 ghost use Rattle.datalink.specs.Answer.{response, newByte, changed, acknowledged, bodyOf, obeyed, iaOf};
 
 // Writes the response whose body is head and then bytes at the front of out.
@@ -95,8 +95,8 @@ fn acknowledge(words: &[u32], memory: &mut [u8], pending: &mut [u8]) -> u8
 
 // Answers an Interrogate: NUM and address as received, and the bytes named.
 fn interrogate(memory: &[u8], ia: u32, f: &[u8], at: u16, n: u8, out: &mut [u8]) -> usize
-    requires { ⌜ ((ia ≤ iaMost) × (dataPlace ≤ length (now f))) × (((memoryStart ≤ at) × (at + n ≤ memoryEnd)) × ((n ≤ dataMost) × ((length (now memory) ≡ memorySize) × (roomLeast ≤ length (now out))))) ⌝ }
-    ensures { λ r. ⌜ Wrote (response ia (part (now (f .entry)) numPlace dataPlace ++ part (now (memory .entry)) (at - memoryStart) (at - memoryStart + n))) (now (out .entry)) r (now (out .exit)) ⌝ }
+    requires { ⌜ ((ia ≤ iaMost) × (frameDataAt ≤ length (now f))) × (((memoryStart ≤ at) × (at + n ≤ memoryEnd)) × ((n ≤ dataMost) × ((length (now memory) ≡ memorySize) × (roomLeast ≤ length (now out))))) ⌝ }
+    ensures { λ r. ⌜ Wrote (response ia (part (now (f .entry)) frameNumAt frameDataAt ++ part (now (memory .entry)) (at - memoryStart) (at - memoryStart + n))) (now (out .entry)) r (now (out .exit)) ⌝ }
 {
     let a = at as usize - MEMORY_START as usize;
     let e = a + n as usize;
@@ -119,24 +119,25 @@ fn echo(pending: &mut [u8], ia: u32, f: &[u8], kind: u8, num: u8, out: &mut [u8]
     len
 }
 
-// Carries out the order of a frame on a fit card.
+// Carries out what the frame f asks, the order, on a fit card.
 pub fn obey(
     words: &[u32],
     memory: &mut [u8],
     pending: &mut [u8],
     f: &[u8],
+    order: Order,
     out: &mut [u8],
 ) -> Outcome
-    requires { ⌜ Fit (cardOf (now words) (now memory) (now pending)) × (roomLeast ≤ length (now out)) ⌝ }
+    requires { let card = cardOf (now words) (now memory) (now pending) in
+        ⌜ (Fit card × (roomLeast ≤ length (now out))) × (order ≡ asked (iaOf card) (now f)) ⌝ }
     ensures { λ r.
         let before = cardOf (now (words .entry)) (now (memory .entry)) (now (pending .entry)) in
         let after = cardOf (now (words .entry)) (now (memory .exit)) (now (pending .exit)) in
-        ⌜ Gave (obeyed before (now (f .entry)) (asked (iaOf before) (now (f .entry)))) (now (out .entry)) r after (now (out .exit)) ⌝ }
+        ⌜ Gave (obeyed before (now (f .entry)) order) (now (out .entry)) r after (now (out .exit)) ⌝ }
 {
     let ia = words[IA];
-    let order = frame::order_of(ia, f);
     match order {
-        Order::Refused(number) => Outcome { number, len: 0 },
+        Order::Silent(number) => Outcome { number, len: 0 },
         Order::Interrogate(at, n) => Outcome {
             number: ANSWERED,
             len: interrogate(memory, ia, f, at, n, out),

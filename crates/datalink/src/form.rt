@@ -1,6 +1,6 @@
 // The dialect's type: its shortest and longest frame and the rest of its form, for frame checks and receivers.
 ghost use mathlib.Core.Path.{_≡_};
-ghost use Rattle.datalink.specs.Frame.{lengthRight};
+ghost use Rattle.datalink.specs.Form.{lengthRight};
 
 pub struct Datalink {}
 

@@ -13,18 +13,20 @@ use card::numbers::READ_ONLY;
 ghost use mathlib.Core.Path.{_≡_};
 ghost use mathlib.Core.Bool.{true};
 ghost use Prim.Native.Nat.{_≤_};
-ghost use lib.Dec.{eqb};
 ghost use lib.ListN.{length};
-ghost use Rattle.wire.specs.Choose.{choose};
-ghost use Rattle.card.specs.Numbers.{rangeUnknown, readOnly};
-ghost use Rattle.card.specs.Change.{noChange, inMemory};
-ghost use Rattle.datalink.specs.Frame.{iaIn, commandIn, kindOf, commandKnown, carried, formRight, lrcRight, rangeRight, changeAllowed, changeRight, orderIn, unless, asked, shortest};
+ghost use Rattle.datalink.specs.Form.{shortest};
+ghost use Rattle.datalink.specs.Frame.{iaIn, commandIn, kindOf, commandKnown, carried, formRight, lrcRight, changeAllowed, asked};
+ghost use Rattle.datalink.specs.Stages.{orderIn, orderAt, orderHere};
 
-// What a frame asks: the bytes from an address, a change of its kind and NUM, that the pending change be applied, or nothing.
+// What a frame asks.
 pub enum Order {
-    Refused(u8),
+    // Refused with a number, and no bytes are sent.
+    Silent(u8),
+    // Interrogate: the address and how many bytes from there on.
     Interrogate(u16, u8),
+    // Change or Change Bits: its kind and NUM.
     Change(u8, u8),
+    // Acknowledge.
     Acknowledge,
 }
 
@@ -78,12 +80,11 @@ fn data_carried(kind: u8, num: u8) -> u8
     num
 }
 
-// Length and NUM.
-fn form_right(f: &[u8]) -> bool
-    requires { ⌜ shortest ≤ length (now f) ⌝ }
+// Length and NUM of a frame of this command.
+fn form_right(command: u8, f: &[u8]) -> bool
+    requires { ⌜ command ≡ commandIn (now f) ⌝ }
     ensures { λ r. ⌜ r ≡ formRight (now (f .entry)) ⌝ }
 {
-    let command = command_in(f);
     if command == Datalink::ACKNOWLEDGE {
         return f.len() == Datalink::ACKNOWLEDGE_SIZE;
     }
@@ -97,30 +98,14 @@ fn form_right(f: &[u8]) -> bool
     (f.len() == Datalink::BARE + data as usize) & right
 }
 
-// The LRC.
-fn lrc_right(f: &[u8]) -> bool
-    requires { ⌜ shortest ≤ length (now f) ⌝ }
+// The LRC of a frame of this command.
+fn lrc_right(command: u8, f: &[u8]) -> bool
+    requires { ⌜ (shortest ≤ length (now f)) × (command ≡ commandIn (now f)) ⌝ }
     ensures { λ r. ⌜ r ≡ lrcRight (now (f .entry)) ⌝ }
 {
-    let command = command_in(f);
     let last = f.len() - 1;
     let sum = wire::sum(&f[Datalink::SECOND..last]);
     (command == Datalink::ACKNOWLEDGE) | (sum == f[last])
-}
-
-// Range, read-only and the order itself, for a frame whose form and LRC are right.
-fn order_in(f: &[u8]) -> Order
-    requires { ⌜ (shortest ≤ length (now f)) × (formRight (now f) ≡ true) ⌝ }
-    ensures { λ r. ⌜ r ≡ unless (rangeRight (now (f .entry))) rangeUnknown (unless (changeRight (now (f .entry))) readOnly (orderIn (now (f .entry)))) ⌝ }
-{
-    let command = command_in(f);
-    if command == Datalink::ACKNOWLEDGE {
-        return Order::Acknowledge;
-    }
-    let kind = kind_of(command);
-    let num = f[Datalink::NUM];
-    let at = change::address(f[Datalink::LOW_ADDRESS], f[Datalink::HIGH_ADDRESS]);
-    order_at(kind, num, at, change::bytes_named(kind, num))
 }
 
 // Whether the n bytes named may be asked for by a frame of this kind.
@@ -131,15 +116,16 @@ fn change_allowed(kind: u8, at: u16, n: u8) -> bool
     (kind == NO_CHANGE) | !fixed
 }
 
-// Range, read-only and the order for a frame of this kind and NUM that names n bytes.
-fn order_at(kind: u8, num: u8, at: u16, n: u8) -> Order
-    ensures { λ r. ⌜ r ≡ unless (inMemory at n) rangeUnknown (unless (changeAllowed kind at n) readOnly (choose (eqb kind noChange) (Order.Interrogate at num) (Order.Change kind num))) ⌝ }
+// A frame of this kind, NUM and address: range, read-only, and what it asks.
+fn order_at(kind: u8, num: u8, at: u16) -> Order
+    ensures { λ r. ⌜ r ≡ orderAt kind num at ⌝ }
 {
+    let n = change::bytes_named(kind, num);
     if !change::in_memory(at, n) {
-        return Order::Refused(RANGE_UNKNOWN);
+        return Order::Silent(RANGE_UNKNOWN);
     }
     if !change_allowed(kind, at, n) {
-        return Order::Refused(READ_ONLY);
+        return Order::Silent(READ_ONLY);
     }
     if kind == NO_CHANGE {
         return Order::Interrogate(at, num);
@@ -147,27 +133,48 @@ fn order_at(kind: u8, num: u8, at: u16, n: u8) -> Order
     Order::Change(kind, num)
 }
 
+// A frame of this command whose form and LRC are right.
+fn order_in(command: u8, f: &[u8]) -> Order
+    requires { ⌜ (command ≡ commandIn (now f)) × (formRight (now f) ≡ true) ⌝ }
+    ensures { λ r. ⌜ r ≡ orderIn (now (f .entry)) ⌝ }
+{
+    if command == Datalink::ACKNOWLEDGE {
+        return Order::Acknowledge;
+    }
+    let kind = kind_of(command);
+    let at = change::address(f[Datalink::LOW_ADDRESS], f[Datalink::HIGH_ADDRESS]);
+    order_at(kind, f[Datalink::NUM], at)
+}
+
+// A frame of this command to this unit: command, length and NUM, LRC.
+fn order_here(command: u8, f: &[u8]) -> Order
+    requires { ⌜ (shortest ≤ length (now f)) × (command ≡ commandIn (now f)) ⌝ }
+    ensures { λ r. ⌜ r ≡ orderHere (now (f .entry)) ⌝ }
+{
+    if !command_known(command) {
+        return Order::Silent(COMMAND_UNKNOWN);
+    }
+    if !form_right(command, f) {
+        return Order::Silent(FRAME_FORM);
+    }
+    if !lrc_right(command, f) {
+        return Order::Silent(CHECK_CHARACTER);
+    }
+    order_in(command, f)
+}
+
 // What the frame f asks of the unit at ia.
 pub fn order_of(ia: u32, f: &[u8]) -> Order
     ensures { λ r. ⌜ r ≡ asked ia (now (f .entry)) ⌝ }
 {
     if !Datalink::fits(f.len()) {
-        return Order::Refused(FRAME_FORM);
+        return Order::Silent(FRAME_FORM);
     }
     if f[0] != Datalink::START {
-        return Order::Refused(FRAME_FORM);
+        return Order::Silent(FRAME_FORM);
     }
     if ia_in(f) != ia {
-        return Order::Refused(FOREIGN_ADDRESS);
+        return Order::Silent(FOREIGN_ADDRESS);
     }
-    if !command_known(command_in(f)) {
-        return Order::Refused(COMMAND_UNKNOWN);
-    }
-    if !form_right(f) {
-        return Order::Refused(FRAME_FORM);
-    }
-    if !lrc_right(f) {
-        return Order::Refused(CHECK_CHARACTER);
-    }
-    order_in(f)
+    order_here(command_in(f), f)
 }

@@ -6,6 +6,7 @@ pub mod write;
 
 use card::Outcome;
 use card::ROOM_LEAST;
+use card::layout::IA;
 use card::numbers::ANSWERED;
 ghost use lib.ListN.{length};
 ghost use Rattle.card.specs.Layout.{cardOf};
@@ -29,5 +30,6 @@ pub fn datalink(
     if number != ANSWERED {
         return Outcome { number, len: 0 };
     }
-    answer::obey(words, memory, pending, f, out)
+    let order = frame::order_of(words[IA], f);
+    answer::obey(words, memory, pending, f, order, out)
 }

@@ -4,7 +4,7 @@ ghost use mathlib.Core.List.{_++_};
 ghost use Prim.Native.Nat.{_+_, _≤_};
 ghost use lib.ListN.{length};
 ghost use Rattle.card.specs.Reply.{Wrote, roomLeast};
-ghost use Rattle.datalink.specs.Frame.{besideBody, framed};
+ghost use Rattle.datalink.specs.Form.{besideBody, framed};
 
 // Writes a frame at the front of out: 7Eh, its second byte, a body of head and then bytes, and the LRC.
 pub fn write_frame(out: &mut [u8], second: u8, head: &[u8], bytes: &[u8]) -> usize

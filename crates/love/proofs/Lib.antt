@@ -1,4 +1,4 @@
 pub mod Frames
-pub mod Answers
+pub mod Writes
 pub mod Laws
 pub mod Fits

@@ -33,11 +33,11 @@ errorReply address code = stx ∷ (unitOf address ++ (errorMark ∷ (pairOf code
 
 -- "Normal reply ends in checksum, ACK"; "the card's [checksum] adds its filter too"
 unfoldable pub normalReply : ℕ → List ℕ → List ℕ
-normalReply address field = stx ∷ ((unitOf address ++ field) ++ (pairOf (sumOf (unitOf address ++ field)) ++ (ack ∷ [])))
+normalReply address characters = stx ∷ ((unitOf address ++ characters) ++ (pairOf (sumOf (unitOf address ++ characters)) ++ (ack ∷ [])))
 
 -- "data is 00 for a write"
-unfoldable pub writtenField : List ℕ
-writtenField = pairOf 0x00
+unfoldable pub writtenData : List ℕ
+writtenData = pairOf 0x00
 
 -- the signs of a read
 abbrev pub positive : ℕ
@@ -47,7 +47,7 @@ abbrev pub negative : ℕ
 negative = 0x01
 
 -- the sign of a word in the reply to a read
-unfoldable pub signOf : ℕ → ℕ
+abbrev pub signOf : ℕ → ℕ
 signOf word = choose (isNegative word) negative positive
 
 -- how many figures a number has in a reply
@@ -55,8 +55,8 @@ abbrev pub figureCount : ℕ
 figureCount = 4
 
 -- "sign 00 or 01 and four figures for a read"
-unfoldable pub valueField : ℕ → List ℕ
-valueField word = pairOf (signOf word) ++ digits figureCount (magnitude word)
+unfoldable pub valueData : ℕ → List ℕ
+valueData word = pairOf (signOf word) ++ digits figureCount (magnitude word)
 
 -- ASCII C, D and 2: the first character of the data for 00, without and with a fault, and the fourth of a negative number
 abbrev pub fineChar : ℕ
@@ -69,17 +69,17 @@ abbrev pub negativeChar : ℕ
 negativeChar = 0x32
 
 -- the data for 00: the first character, 0, 0, the fourth, and four figures
-unfoldable pub statusField : ℕ → ℕ → ℕ → List ℕ
-statusField first fourth number = first ∷ zeroChar ∷ zeroChar ∷ fourth ∷ digits figureCount number
+unfoldable pub statusData : ℕ → ℕ → ℕ → List ℕ
+statusData first fourth number = first ∷ zeroChar ∷ zeroChar ∷ fourth ∷ digits figureCount number
 
 -- "For 00, probe 0: C (D at fault), 0, 0, 0 (2 if negative), four figures (0000 at fault)."
-unfoldable pub probeField : Reading → List ℕ
-probeField (Temperature tenths) = statusField fineChar (choose (isNegative (tenths .0)) negativeChar zeroChar) (magnitude (tenths .0))
-probeField Fault = statusField faultChar zeroChar 0
+unfoldable pub probeData : Reading → List ℕ
+probeData (Temperature tenths) = statusData fineChar (choose (isNegative (tenths .0)) negativeChar zeroChar) (magnitude (tenths .0))
+probeData Fault = statusData faultChar zeroChar 0
 
 -- the reply to 00 at a fault: no temperature is in it
 unfoldable pub faultReply : ℕ → List ℕ
-faultReply address = normalReply address (probeField Fault)
+faultReply address = normalReply address (probeData Fault)
 
 -- the unit's address
 abbrev pub addressOf : List ℕ → ℕ
@@ -89,9 +89,9 @@ addressOf words = getD words loveAddressAt 0
 unfoldable pub obeyed : List ℕ → List ℕ → Order → WordsReply
 obeyed words memory (Silent number) = record { number = number; bytes = []; words = words }
 obeyed words memory (Refused number code) = record { number = number; bytes = errorReply (addressOf words) code; words = words }
-obeyed words memory Probe = record { number = answered; bytes = normalReply (addressOf words) (probeField (readingOf (getD memory 0 0))); words = words }
-obeyed words memory (Read k) = record { number = answered; bytes = normalReply (addressOf words) (valueField (getD words (loveAt + k) 0)); words = words }
-obeyed words memory (Write k word) = record { number = answered; bytes = normalReply (addressOf words) writtenField; words = set words (loveAt + k) word }
+obeyed words memory Probe = record { number = answered; bytes = normalReply (addressOf words) (probeData (readingOf (getD memory 0 0))); words = words }
+obeyed words memory (Read k) = record { number = answered; bytes = normalReply (addressOf words) (valueData (getD words (loveAt + k) 0)); words = words }
+obeyed words memory (Write k word) = record { number = answered; bytes = normalReply (addressOf words) writtenData; words = set words (loveAt + k) word }
 
 -- what the card gives for a Love frame: memory and the pending change are as they were
 unfoldable pub loveReply : Card → ℕ → List ℕ → Reply

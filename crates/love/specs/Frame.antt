@@ -12,29 +12,13 @@ use Rattle.figures.specs.Figure.{decimal, upperHex, hex, allFigures, pairByte}
 use Rattle.figures.specs.Decimal.{valueOf}
 use Rattle.figures.specs.Signed.{withSign}
 use Rattle.card.specs.Numbers.{foreignAddress, frameForm, checkCharacter, commandUnknown, valueOutside}
-use Rattle.card.specs.Layout.{loveCount}
-use Rattle.card.specs.Fitness.{inSpan, loveHundred, loveLeast, loveMost}
-use Rattle.love.specs.Form.{lengthRight, stx, etx, filterAt, addressAt, fieldAt, tail, filterOf}
+use Rattle.card.specs.Layout.{loveAt, loveCount}
+use Rattle.card.specs.Fitness.{inRange, loveHundred}
+use Rattle.love.specs.Form.{lengthRight, stx, etx, filterAt, addressAt, dataAt, tail, filterOf, commandAt, parameterAt, valueAt, signAt, statusCommand, readCommand, writeCommand, sp1, sp2, allo, alhi, plusSign, minusSign, dataLeast, dataMost, statusLength, commandLength, readLength, writeLength, undefinedCommand, checksumError, illegalCharacter, fieldError, outOfRange}
 use Rattle.love.specs.declared.frame.Order.{Order}
 use Rattle.love.specs.declared.frame.Order.the-variants.{Silent, Refused, Probe, Read, Write}
 
--- error codes, by source document 004's names
-abbrev pub undefinedCommand : ℕ
-undefinedCommand = 0x01
-
-abbrev pub checksumError : ℕ
-checksumError = 0x02
-
-abbrev pub illegalCharacter : ℕ
-illegalCharacter = 0x04
-
-abbrev pub fieldError : ℕ
-fieldError = 0x05
-
-abbrev pub outOfRange : ℕ
-outOfRange = 0x06
-
--- a test, and the number if it fails; then no bytes are sent
+-- a test, and the number if it fails; then no byte is sent
 abbrev pub silently : Bool → ℕ → Order → Order
 silently test number rest = choose test rest (Silent number)
 
@@ -43,8 +27,8 @@ abbrev pub unless : Bool → ℕ → ℕ → Order → Order
 unless test number code rest = choose test rest (Refused number code)
 
 -- a frame's data
-abbrev pub fieldOf : List ℕ → List ℕ
-fieldOf f = part f fieldAt (length f - tail)
+abbrev pub dataOf : List ℕ → List ℕ
+dataOf f = part f dataAt (length f - tail)
 
 -- the byte that two characters are, both of them figures below limit. "In data a to f mean A to F": there the limit is `hex`
 abbrev pub byteAt : ℕ → List ℕ → ℕ → ℕ
@@ -58,42 +42,6 @@ forUnit address f = eqb (getD f filterAt 0) (filterOf address) && eqb (byteAt up
 unfoldable pub checksumRight : List ℕ → Bool
 checksumRight f = eqb (byteAt upperHex f (length f - tail)) (sumOf (part f addressAt (length f - tail)))
 
--- where a command's two halves stand in the data, and a write's four figures and sign
-abbrev pub commandAt : ℕ
-commandAt = 0
-
-abbrev pub parameterAt : ℕ
-parameterAt = 2
-
-abbrev pub valueAt : ℕ
-valueAt = 4
-
-abbrev pub signAt : ℕ
-signAt = 8
-
--- the first half: 00, 01.. and 02..
-abbrev pub statusCommand : ℕ
-statusCommand = 0x00
-
-abbrev pub readCommand : ℕ
-readCommand = 0x01
-
-abbrev pub writeCommand : ℕ
-writeCommand = 0x02
-
--- the second half: ..00, ..02, ..04 and ..05
-abbrev pub sp1 : ℕ
-sp1 = 0x00
-
-abbrev pub sp2 : ℕ
-sp2 = 0x02
-
-abbrev pub allo : ℕ
-allo = 0x04
-
-abbrev pub alhi : ℕ
-alhi = 0x05
-
 -- the parameter that a second half names: its place among Love's four, or `loveCount` for none
 unfoldable pub parameterOf : ℕ → ℕ
 parameterOf low =
@@ -103,39 +51,13 @@ parameterOf low =
     (choose (eqb low alhi) 3
     loveCount)))
 
--- data lengths: the least and the most, that of 00, the least of any other command, and those of a read and of a write
-abbrev pub fieldLeast : ℕ
-fieldLeast = 2
-
-abbrev pub fieldMost : ℕ
-fieldMost = 10
-
-abbrev pub statusLength : ℕ
-statusLength = 2
-
-abbrev pub commandLength : ℕ
-commandLength = 4
-
-abbrev pub readLength : ℕ
-readLength = 4
-
-abbrev pub writeLength : ℕ
-writeLength = 10
-
--- the signs of a write
-abbrev pub plusSign : ℕ
-plusSign = 0x00
-
-abbrev pub minusSign : ℕ
-minusSign = 0xFF
-
 -- a write's sign is 00 or FF
 unfoldable pub signRight : List ℕ → Bool
-signRight field = eqb (byteAt hex field signAt) plusSign || eqb (byteAt hex field signAt) minusSign
+signRight characters = eqb (byteAt hex characters signAt) plusSign || eqb (byteAt hex characters signAt) minusSign
 
 -- the number that a write's data holds, as a word; minus zero is zero
 unfoldable pub numberIn : List ℕ → ℕ
-numberIn field = withSign (eqb (byteAt hex field signAt) minusSign) (valueOf (part field valueAt signAt))
+numberIn characters = withSign (eqb (byteAt hex characters signAt) minusSign) (valueOf (part characters valueAt signAt))
 
 -- "Order: STX, ETX, address figures (3, silent); filter and address (2); checksum (4, code 02); data characters outside 0-9, A-F, a-f
 -- (3, code 04); then, d being the data length:
@@ -145,19 +67,19 @@ numberIn field = withSign (eqb (byteAt hex field signAt) minusSign) (valueOf (pa
 -- - Write: four decimal figures, then sign 00 or FF; else 7, code 05. Value outside: 7, code 06."
 unfoldable pub asked : ℕ → List ℕ → Order
 asked address f =
-    let field = fieldOf f in
-    let d = length field in
-    let command = byteAt hex field commandAt in
-    let k = parameterOf (byteAt hex field parameterAt) in
+    let characters = dataOf f in
+    let d = length characters in
+    let command = byteAt hex characters commandAt in
+    let k = parameterOf (byteAt hex characters parameterAt) in
     silently (lengthRight (length f)) frameForm
     (silently (eqb (getD f 0 0) stx) frameForm
     (silently (eqb (getD f (length f - 1) 0) etx) frameForm
-    (silently (allFigures upperHex (part f addressAt fieldAt)) frameForm
+    (silently (allFigures upperHex (part f addressAt dataAt)) frameForm
     (silently (forUnit address f) foreignAddress
     (unless (checksumRight f) checkCharacter checksumError
-    (unless (allFigures hex field) frameForm illegalCharacter
-    (unless (leb fieldLeast d) frameForm fieldError
-    (unless (leb d fieldMost) frameForm fieldError
+    (unless (allFigures hex characters) frameForm illegalCharacter
+    (unless (leb dataLeast d) frameForm fieldError
+    (unless (leb d dataMost) frameForm fieldError
     (choose (eqb command statusCommand)
     (unless (eqb d statusLength) frameForm fieldError
     Probe)
@@ -168,7 +90,7 @@ asked address f =
     (Read k))
     (unless (eqb command writeCommand) commandUnknown undefinedCommand
     (unless (eqb d writeLength) frameForm fieldError
-    (unless (allFigures decimal (part field valueAt signAt)) valueOutside fieldError
-    (unless (signRight field) valueOutside fieldError
-    (unless (inSpan loveLeast loveMost (numberIn field)) valueOutside outOfRange
-    (Write k (numberIn field)))))))))))))))))))
+    (unless (allFigures decimal (part characters valueAt signAt)) valueOutside fieldError
+    (unless (signRight characters) valueOutside fieldError
+    (unless (inRange (loveAt + k) (numberIn characters)) valueOutside outOfRange
+    (Write k (numberIn characters)))))))))))))))))))

@@ -1,7 +1,5 @@
 // What the card answers a Love frame. Document 01, "Love", last paragraph.
 use crate::form::Love;
-use crate::form::PAIR;
-use crate::frame;
 use crate::frame::Order;
 use card::Outcome;
 use card::fitness::LOVE_HUNDRED;
@@ -14,16 +12,16 @@ ghost use mathlib.Core.Path.{_≡_};
 ghost use mathlib.Core.List.{[], _∷_, _++_};
 ghost use Prim.Native.Nat.{_≤_, _<_, _+_};
 ghost use lib.ListN.{length, set};
-ghost use Rattle.wire.specs.Buffer.{put, part, overlay};
+ghost use Rattle.wire.specs.Buffer.{put, part};
 ghost use Rattle.wire.specs.Sum.{sumOf};
 ghost use Rattle.figures.specs.Figure.{pairOf};
 ghost use Rattle.card.specs.Layout.{loveAt, loveCount, wordCount, memorySize};
 ghost use Rattle.card.specs.Fitness.{loveAddressMost};
 ghost use Rattle.card.specs.Probe.{readingOf};
 ghost use Rattle.card.specs.Reply.{Wrote, GaveWords, roomLeast};
-ghost use Rattle.love.specs.Form.{stx, ack, filterAt, fieldAt, tail};
-ghost use Rattle.love.specs.Frame.{asked};
-ghost use Rattle.love.specs.Answer.{unitOf, errorReply, normalReply, writtenField, signOf, valueField, statusField, probeField, addressOf, obeyed};
+ghost use Rattle.love.specs.Form.{stx, ack, filterAt, dataAt, tail};
+ghost use Rattle.love.specs.Stages.{Sound};
+ghost use Rattle.love.specs.Answer.{unitOf, errorReply, normalReply, writtenData, signOf, valueData, statusData, probeData, addressOf, obeyed};
 
 // The mark of an error reply.
 const ERROR: u8 = b'N';
@@ -41,7 +39,7 @@ const FIGURES: usize = 4;
 
 // The data for 00: how many characters stand before its figures; the first without and with a fault; the fourth of a negative
 // number; and any other.
-const STATUS: usize = 4;
+const STATUS_SIZE: usize = 4;
 
 const FINE: u8 = b'C';
 
@@ -54,7 +52,7 @@ const ZERO: u8 = b'0';
 // Writes what begins every reply: STX, filter and address.
 fn put_unit(out: &mut [u8], address: u32)
     requires { ⌜ (address ≤ loveAddressMost) × (roomLeast ≤ length (now out)) ⌝ }
-    ensures { λ _. ⌜ now (out .exit) ≡ overlay (stx ∷ unitOf address) (now (out .entry)) ⌝ }
+    ensures { λ _. ⌜ Wrote (stx ∷ unitOf address) (now (out .entry)) dataAt (now (out .exit)) ⌝ }
 {
     out[0] = Love::STX;
     out[Love::FILTER] = Love::filter(address);
@@ -63,12 +61,12 @@ fn put_unit(out: &mut [u8], address: u32)
 
 // Writes what ends a normal reply whose data ends before index end: checksum and ACK.
 fn put_end(out: &mut [u8], end: usize) -> usize
-    requires { ⌜ (fieldAt ≤ end) × (end + tail ≤ length (now out)) ⌝ }
+    requires { ⌜ (dataAt ≤ end) × (end + tail ≤ length (now out)) ⌝ }
     ensures { λ r. ⌜ (r ≡ end + tail) × (now (out .exit) ≡ put (now (out .entry)) end (pairOf (sumOf (part (now (out .entry)) filterAt end)) ++ (ack ∷ []))) ⌝ }
 {
     let sum = wire::sum(&out[Love::FILTER..end]);
     figures::put_pair(out, end, sum);
-    out[end + PAIR] = Love::ACK;
+    out[end + Love::PAIR] = Love::ACK;
     end + Love::TAIL
 }
 
@@ -80,7 +78,7 @@ fn put_error(out: &mut [u8], address: u32, code: u8) -> usize
     put_unit(out, address);
     out[Love::DATA] = ERROR;
     figures::put_pair(out, Love::DATA + 1, code);
-    let end = Love::DATA + 1 + PAIR;
+    let end = Love::DATA + 1 + Love::PAIR;
     out[end] = Love::ACK;
     end + 1
 }
@@ -88,11 +86,11 @@ fn put_error(out: &mut [u8], address: u32, code: u8) -> usize
 // Writes the reply to a write.
 fn put_written(out: &mut [u8], address: u32) -> usize
     requires { ⌜ (address ≤ loveAddressMost) × (roomLeast ≤ length (now out)) ⌝ }
-    ensures { λ r. ⌜ Wrote (normalReply address writtenField) (now (out .entry)) r (now (out .exit)) ⌝ }
+    ensures { λ r. ⌜ Wrote (normalReply address writtenData) (now (out .entry)) r (now (out .exit)) ⌝ }
 {
     put_unit(out, address);
     figures::put_pair(out, Love::DATA, WRITTEN);
-    put_end(out, Love::DATA + PAIR)
+    put_end(out, Love::DATA + Love::PAIR)
 }
 
 // The sign of a word in the reply to a read.
@@ -105,32 +103,33 @@ fn sign_of(word: u32) -> u8
 // Writes the reply to a read.
 fn put_value(out: &mut [u8], address: u32, word: u32) -> usize
     requires { ⌜ (address ≤ loveAddressMost) × (roomLeast ≤ length (now out)) ⌝ }
-    ensures { λ r. ⌜ Wrote (normalReply address (valueField word)) (now (out .entry)) r (now (out .exit)) ⌝ }
+    ensures { λ r. ⌜ Wrote (normalReply address (valueData word)) (now (out .entry)) r (now (out .exit)) ⌝ }
 {
     put_unit(out, address);
     figures::put_pair(out, Love::DATA, sign_of(word));
-    figures::put_digits(out, Love::DATA + PAIR, FIGURES, figures::magnitude(word));
-    put_end(out, Love::DATA + PAIR + FIGURES)
+    let at = Love::DATA + Love::PAIR;
+    figures::put_digits(out, at, FIGURES, figures::magnitude(word));
+    put_end(out, at + FIGURES)
 }
 
 // Writes the reply to 00.
 fn put_status(out: &mut [u8], address: u32, first: u8, fourth: u8, number: u32) -> usize
     requires { ⌜ (address ≤ loveAddressMost) × (roomLeast ≤ length (now out)) ⌝ }
-    ensures { λ r. ⌜ Wrote (normalReply address (statusField first fourth number)) (now (out .entry)) r (now (out .exit)) ⌝ }
+    ensures { λ r. ⌜ Wrote (normalReply address (statusData first fourth number)) (now (out .entry)) r (now (out .exit)) ⌝ }
 {
     put_unit(out, address);
     out[Love::DATA] = first;
     out[Love::DATA + 1] = ZERO;
     out[Love::DATA + 2] = ZERO;
     out[Love::DATA + 3] = fourth;
-    figures::put_digits(out, Love::DATA + STATUS, FIGURES, number);
-    put_end(out, Love::DATA + STATUS + FIGURES)
+    figures::put_digits(out, Love::DATA + STATUS_SIZE, FIGURES, number);
+    put_end(out, Love::DATA + STATUS_SIZE + FIGURES)
 }
 
 // Answers 00 by a probe's code: the temperature is taken out of the reading, or the fault is answered.
 fn put_probe(out: &mut [u8], address: u32, code: u8) -> usize
     requires { ⌜ (address ≤ loveAddressMost) × (roomLeast ≤ length (now out)) ⌝ }
-    ensures { λ r. ⌜ Wrote (normalReply address (probeField (readingOf code))) (now (out .entry)) r (now (out .exit)) ⌝ }
+    ensures { λ r. ⌜ Wrote (normalReply address (probeData (readingOf code))) (now (out .entry)) r (now (out .exit)) ⌝ }
 {
     let Reading::Temperature(tenths) = read_code(code) else {
         return put_status(out, address, FAULT, ZERO, 0);
@@ -148,13 +147,12 @@ fn store(words: &mut [u32], k: usize, word: u32)
     words[LOVE + k] = word;
 }
 
-// Carries out what a frame asks on the words of a fit card.
-pub fn obey(words: &mut [u32], memory: &[u8], f: &[u8], out: &mut [u8]) -> Outcome
-    requires { ⌜ ((length (now words) ≡ wordCount) × (addressOf (now words) ≤ loveAddressMost)) × ((length (now memory) ≡ memorySize) × (roomLeast ≤ length (now out))) ⌝ }
-    ensures { λ r. ⌜ GaveWords (obeyed (now (words .entry)) (now (memory .entry)) (asked (addressOf (now (words .entry))) (now (f .entry)))) (now (out .entry)) (r .number) (r .len) (now (words .exit)) (now (out .exit)) ⌝ }
+// Carries out an order on the words of a fit card.
+pub fn obey(words: &mut [u32], memory: &[u8], order: Order, out: &mut [u8]) -> Outcome
+    requires { ⌜ (Sound order × ((length (now words) ≡ wordCount) × (addressOf (now words) ≤ loveAddressMost))) × ((length (now memory) ≡ memorySize) × (roomLeast ≤ length (now out))) ⌝ }
+    ensures { λ r. ⌜ GaveWords (obeyed (now (words .entry)) (now (memory .entry)) order) (now (out .entry)) (r .number) (r .len) (now (words .exit)) (now (out .exit)) ⌝ }
 {
     let address = words[LOVE_ADDRESS];
-    let order = frame::order_of(address, f);
     match order {
         Order::Silent(number) => Outcome { number, len: 0 },
         Order::Refused(number, code) => {

@@ -1,9 +1,8 @@
 // What a Love frame asks of the unit at an address. Document 01, "Love", in its order.
 use crate::form::Love;
 use card::fitness::LOVE_HUNDRED;
-use card::fitness::LOVE_LEAST;
-use card::fitness::LOVE_MOST;
-use card::fitness::in_span;
+use card::fitness::in_range;
+use card::layout::LOVE;
 use card::layout::LOVE_COUNT;
 use card::numbers::CHECK_CHARACTER;
 use card::numbers::COMMAND_UNKNOWN;
@@ -22,64 +21,11 @@ ghost use lib.Dec.{eqb};
 ghost use lib.ListN.{length};
 ghost use Rattle.wire.specs.Buffer.{part};
 ghost use Rattle.figures.specs.Figure.{decimal, upperHex, hex, allFigures};
+ghost use Rattle.card.specs.Layout.{loveCount};
 ghost use Rattle.card.specs.Fitness.{loveAddressMost};
-ghost use Rattle.love.specs.Form.{shortest, addressAt};
-ghost use Rattle.love.specs.Frame.{forUnit, checksumRight, byteAt, parameterOf, writeLength, valueAt, signAt, plusSign, minusSign, numberIn, asked};
+ghost use Rattle.love.specs.Form.{shortest, addressAt, valueAt, signAt, plusSign, minusSign, writeLength};
+ghost use Rattle.love.specs.Frame.{forUnit, checksumRight, byteAt, parameterOf, numberIn, asked};
 ghost use Rattle.love.specs.Stages.{orderWrite, orderBy, orderIn, orderHere};
-
-// Error codes, by source document 004's names.
-const UNDEFINED_COMMAND: u8 = 0x01;
-
-const CHECKSUM_ERROR: u8 = 0x02;
-
-const ILLEGAL_CHARACTER: u8 = 0x04;
-
-const FIELD_ERROR: u8 = 0x05;
-
-const OUT_OF_RANGE: u8 = 0x06;
-
-// Where a command's two halves stand in the data, and a write's four figures and sign.
-const COMMAND: usize = 0;
-
-const PARAMETER: usize = 2;
-
-const VALUE: usize = 4;
-
-const SIGN: usize = 8;
-
-// The first half: 00, 01.. and 02..
-const STATUS: u32 = 0x00;
-
-const READ: u32 = 0x01;
-
-const WRITE: u32 = 0x02;
-
-// The second half: ..00, ..02, ..04 and ..05.
-const SP1: u32 = 0x00;
-
-const SP2: u32 = 0x02;
-
-const ALLO: u32 = 0x04;
-
-const ALHI: u32 = 0x05;
-
-// The signs of a write.
-const PLUS: u32 = 0x00;
-
-const MINUS: u32 = 0xFF;
-
-// Data lengths: the least and the most, that of 00, the least of any other command, and those of a read and of a write.
-const FIELD_LEAST: usize = 2;
-
-const FIELD_MOST: usize = 10;
-
-const STATUS_LENGTH: usize = 2;
-
-const COMMAND_LENGTH: usize = 4;
-
-const READ_LENGTH: usize = 4;
-
-const WRITE_LENGTH: usize = 10;
 
 // What a frame asks.
 pub enum Order {
@@ -126,16 +72,16 @@ fn checksum_right(f: &[u8]) -> bool
 fn parameter(low: u32) -> usize
     ensures { λ r. ⌜ r ≡ parameterOf low ⌝ }
 {
-    if low == SP1 {
+    if low == Love::SP1 {
         return 0;
     }
-    if low == SP2 {
+    if low == Love::SP2 {
         return 1;
     }
-    if low == ALLO {
+    if low == Love::ALLO {
         return 2;
     }
-    if low == ALHI {
+    if low == Love::ALHI {
         return 3;
     }
     LOVE_COUNT
@@ -145,82 +91,82 @@ fn parameter(low: u32) -> usize
 fn sign_right(sign: u32) -> bool
     ensures { λ r. ⌜ r ≡ (eqb sign plusSign || eqb sign minusSign) ⌝ }
 {
-    (sign == PLUS) | (sign == MINUS)
+    (sign == Love::PLUS) | (sign == Love::MINUS)
 }
 
 // The number that a write's data holds, whose sign was read already, as a word.
-fn number_in(sign: u32, field: &[u8]) -> u32
-    requires { ⌜ ((length (now field) ≡ writeLength) × (sign ≡ byteAt hex (now field) signAt)) × (allFigures decimal (part (now field) valueAt signAt) ≡ true) ⌝ }
-    ensures { λ r. ⌜ r ≡ numberIn (now (field .entry)) ⌝ }
+fn number_in(sign: u32, characters: &[u8]) -> u32
+    requires { ⌜ ((length (now characters) ≡ writeLength) × (sign ≡ byteAt hex (now characters) signAt)) × (allFigures decimal (part (now characters) valueAt signAt) ≡ true) ⌝ }
+    ensures { λ r. ⌜ r ≡ numberIn (now (characters .entry)) ⌝ }
 {
-    let value = figures::value(&field[VALUE..SIGN]);
-    figures::with_sign(sign == MINUS, value as u32)
+    let value = figures::value(&characters[Love::VALUE..Love::SIGN]);
+    figures::with_sign(sign == Love::MINUS, value as u32)
 }
 
 // A write of parameter k: its figures, its sign, its range.
-fn order_write(k: usize, field: &[u8]) -> Order
-    requires { ⌜ length (now field) ≡ writeLength ⌝ }
-    ensures { λ r. ⌜ r ≡ orderWrite k (now (field .entry)) ⌝ }
+fn order_write(k: usize, characters: &[u8]) -> Order
+    requires { ⌜ (k < loveCount) × (length (now characters) ≡ writeLength) ⌝ }
+    ensures { λ r. ⌜ r ≡ orderWrite k (now (characters .entry)) ⌝ }
 {
-    if !all_figures(&field[VALUE..SIGN], DECIMAL) {
-        return Order::Refused(VALUE_OUTSIDE, FIELD_ERROR);
+    if !all_figures(&characters[Love::VALUE..Love::SIGN], DECIMAL) {
+        return Order::Refused(VALUE_OUTSIDE, Love::FIELD_ERROR);
     }
-    let sign = byte_at(field, SIGN, HEX);
+    let sign = byte_at(characters, Love::SIGN, HEX);
     if !sign_right(sign) {
-        return Order::Refused(VALUE_OUTSIDE, FIELD_ERROR);
+        return Order::Refused(VALUE_OUTSIDE, Love::FIELD_ERROR);
     }
-    let number = number_in(sign, field);
-    if !in_span(number, LOVE_LEAST, LOVE_MOST) {
-        return Order::Refused(VALUE_OUTSIDE, OUT_OF_RANGE);
+    let number = number_in(sign, characters);
+    if !in_range(LOVE + k, number) {
+        return Order::Refused(VALUE_OUTSIDE, Love::OUT_OF_RANGE);
     }
     Order::Write(k, number)
 }
 
 // The command by its first half, and the parameter that its second half names.
-fn order_by(command: u32, k: usize, field: &[u8]) -> Order
-    ensures { λ r. ⌜ r ≡ orderBy command k (now (field .entry)) ⌝ }
+fn order_by(command: u32, k: usize, characters: &[u8]) -> Order
+    ensures { λ r. ⌜ r ≡ orderBy command k (now (characters .entry)) ⌝ }
 {
     if LOVE_COUNT <= k {
-        return Order::Refused(COMMAND_UNKNOWN, UNDEFINED_COMMAND);
+        return Order::Refused(COMMAND_UNKNOWN, Love::UNDEFINED_COMMAND);
     }
-    if command == READ {
-        if field.len() != READ_LENGTH {
-            return Order::Refused(FRAME_FORM, FIELD_ERROR);
+    if command == Love::READ {
+        if characters.len() != Love::READ_LENGTH {
+            return Order::Refused(FRAME_FORM, Love::FIELD_ERROR);
         }
         return Order::Read(k);
     }
-    if command != WRITE {
-        return Order::Refused(COMMAND_UNKNOWN, UNDEFINED_COMMAND);
+    if command != Love::WRITE {
+        return Order::Refused(COMMAND_UNKNOWN, Love::UNDEFINED_COMMAND);
     }
-    if field.len() != WRITE_LENGTH {
-        return Order::Refused(FRAME_FORM, FIELD_ERROR);
+    if characters.len() != Love::WRITE_LENGTH {
+        return Order::Refused(FRAME_FORM, Love::FIELD_ERROR);
     }
-    order_write(k, field)
+    order_write(k, characters)
 }
 
 // The data: its length, and 00 or another command.
-fn order_in(field: &[u8]) -> Order
-    ensures { λ r. ⌜ r ≡ orderIn (now (field .entry)) ⌝ }
+fn order_in(characters: &[u8]) -> Order
+    ensures { λ r. ⌜ r ≡ orderIn (now (characters .entry)) ⌝ }
 {
-    let d = field.len();
-    if d < FIELD_LEAST {
-        return Order::Refused(FRAME_FORM, FIELD_ERROR);
+    let d = characters.len();
+    if d < Love::DATA_LEAST {
+        return Order::Refused(FRAME_FORM, Love::FIELD_ERROR);
     }
-    if FIELD_MOST < d {
-        return Order::Refused(FRAME_FORM, FIELD_ERROR);
+    if Love::DATA_MOST < d {
+        return Order::Refused(FRAME_FORM, Love::FIELD_ERROR);
     }
-    let command = byte_at(field, COMMAND, HEX);
-    if command == STATUS {
-        if d != STATUS_LENGTH {
-            return Order::Refused(FRAME_FORM, FIELD_ERROR);
+    let command = byte_at(characters, Love::COMMAND, HEX);
+    if command == Love::STATUS {
+        if d != Love::STATUS_LENGTH {
+            return Order::Refused(FRAME_FORM, Love::FIELD_ERROR);
         }
         return Order::Probe;
     }
-    if d < COMMAND_LENGTH {
-        return Order::Refused(FRAME_FORM, FIELD_ERROR);
+    if d < Love::COMMAND_LENGTH {
+        return Order::Refused(FRAME_FORM, Love::FIELD_ERROR);
     }
-    let k = parameter(byte_at(field, PARAMETER, HEX));
-    order_by(command, k, field)
+    let k = parameter(byte_at(characters, Love::PARAMETER, HEX));
+    order_by(command, k, characters)
 }
 
 // A frame of a right form: whose it is, its checksum, its characters.
@@ -232,14 +178,14 @@ fn order_here(address: u32, unit: u32, f: &[u8]) -> Order
         return Order::Silent(FOREIGN_ADDRESS);
     }
     if !checksum_right(f) {
-        return Order::Refused(CHECK_CHARACTER, CHECKSUM_ERROR);
+        return Order::Refused(CHECK_CHARACTER, Love::CHECKSUM_ERROR);
     }
     let end = f.len() - Love::TAIL;
-    let field = &f[Love::DATA..end];
-    if !all_figures(field, HEX) {
-        return Order::Refused(FRAME_FORM, ILLEGAL_CHARACTER);
+    let characters = &f[Love::DATA..end];
+    if !all_figures(characters, HEX) {
+        return Order::Refused(FRAME_FORM, Love::ILLEGAL_CHARACTER);
     }
-    order_in(field)
+    order_in(characters)
 }
 
 // What the frame f asks of the unit at an address.

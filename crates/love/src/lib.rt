@@ -5,6 +5,7 @@ mod frame;
 
 use card::Outcome;
 use card::ROOM_LEAST;
+use card::layout::LOVE_ADDRESS;
 use card::numbers::ANSWERED;
 ghost use lib.ListN.{length};
 ghost use Rattle.card.specs.Layout.{cardOf};
@@ -22,5 +23,6 @@ pub fn love(words: &mut [u32], memory: &[u8], pending: &[u8], f: &[u8], out: &mu
     if number != ANSWERED {
         return Outcome { number, len: 0 };
     }
-    answer::obey(words, memory, f, out)
+    let order = frame::order_of(words[LOVE_ADDRESS], f);
+    answer::obey(words, memory, order, out)
 }

@@ -1,6 +1,6 @@
 -- What holds of every LucidControl reply: a refusal changes no table; a failed probe is answered by the fault reply, a group's too; the
 -- reply depends on the probes asked for alone, and without one on no memory at all. Assumes nothing.
-use mathlib.Core.Path.{_≡_, refl, sym, ap}
+use mathlib.Core.Path.{_≡_, refl, ap}
 use mathlib.Core.Bool.{Bool, true, false, not}
 use mathlib.Core.List.{List, [], _∷_}
 use Prim.Native.Nat.{ℕ, zero, suc, _+_, _*_, _/_, _%_, _^_, _<_}
@@ -8,10 +8,10 @@ use native.Mathlib.Nat.{add-zero, zero-add, not-suc-le-zero, le-of-suc-le-suc}
 use native.Mathlib.Omega.{arith}
 use borrow.Author.Tests.{eqb-false, not-true}
 use lib.Dec.{eqb, eqb→eq}
-use lib.ListN.{length, getD}
+use lib.ListN.{getD}
 use Rattle.wire.proofs.Tests.{and-true}
 use Rattle.wire.specs.Choose.{choose}
-use Rattle.wire.proofs.Cases.{yes, by-choice}
+use Rattle.wire.proofs.Cases.{by-choice}
 use Rattle.wire.specs.Word.{minus, wordValues}
 use Rattle.card.specs.Numbers.{probeFault}
 use Rattle.card.specs.Layout.{Card, channels}
@@ -20,17 +20,18 @@ use Rattle.card.specs.Reply.{WordsReply, onWords, sent, shell, roomLeast, Keeps
 use Rattle.card.specs.declared.probe.Reading.the-variants.{Fault}
 use Rattle.card.proofs.Replies.{shell-keeps}
 use Rattle.card.proofs.Sweep.{at}
-use Rattle.lucid.specs.Form.{lengthRight, channelsFrom, channelsOf, demand}
+use Rattle.lucid.specs.Form.{channelsFrom, channelsOf, demand}
 use Rattle.lucid.specs.Frame.{asked}
-use Rattle.lucid.specs.Answer.{Values, Held, Failed, joined, group, hundredthsOf, valueOf, read, faulted, answerTo, changed, obeyed, lucidWords, lucidReply, named, readsProbe, asksProbe}
+use Rattle.lucid.specs.Answer.{Values, Held, Failed, joined, group, hundredthsOf, valueOf, read, faulted, obeyed, lucidReply, named, readsProbe, asksProbe}
 use Rattle.lucid.specs.declared.frame.Order.{Order}
-use Rattle.lucid.specs.declared.frame.Order.the-variants.{Refused, GetIo, SetIo, GetParam, SetParam, Reset}
-use Rattle.lucid.proofs.Groups.{value-fault}
+use Rattle.lucid.specs.declared.frame.Order.the-variants.{Silent, Refused, GetIo, SetIo, GetParam, SetParam, Reset}
+use Rattle.lucid.proofs.Writes.{value-fault}
 
 obeyed-keeps : (card : Card) (f : List ℕ) (order : Order) → Keeps card (onWords card (obeyed (card .words) (card .memory) f order))
-unfolding answerTo changed
+unfolding obeyed
+obeyed-keeps card f (Silent number) = record { kept = λ _. refl }
 obeyed-keeps card f (Refused number status) = record { kept = λ _. refl }
-obeyed-keeps card f (GetIo kind mask) = record { kept = λ _. refl }
+obeyed-keeps card f (GetIo valueType mask) = record { kept = λ _. refl }
 obeyed-keeps card f (SetIo mask) = record { kept = λ h. let z : ⊥ = omega arith in absurd z }
 obeyed-keeps card f (GetParam place) = record { kept = λ _. refl }
 obeyed-keeps card f (SetParam place saved value) = record { kept = λ h. let z : ⊥ = omega arith in absurd z }
@@ -38,10 +39,8 @@ obeyed-keeps card f (Reset channel saved) = record { kept = λ h. let z : ⊥ = 
 
 -- "Numbers 2 to 14 change no table"
 pub keeps : (card : Card) (room : ℕ) (f : List ℕ) → Keeps card (lucidReply card room f)
-unfolding lucidReply lucidWords
-keeps card room f =
-    shell-keeps roomLeast card room _
-    (by-choice (λ (r : WordsReply). Keeps card (onWords card r)) (lengthRight (length f)) _ _ (λ _. obeyed-keeps card f (asked f)) (λ _. record { kept = λ _. refl }))
+unfolding lucidReply
+keeps card room f = shell-keeps roomLeast card room _ (obeyed-keeps card f (asked f))
 
 joined-failed : (g : Values) → joined g Failed ≡ Failed
 unfolding joined
@@ -66,13 +65,14 @@ group-fault value (suc n) k mask (suc channel) h b e =
 
 order-fault : (ws memory f : List ℕ) (order : Order) (channel : ℕ) → channel < channels → readsProbe order channel ≡ true → getD memory channel 0 ≡ faultCode
     → obeyed ws memory f order ≡ leaving ws faulted
-unfolding answerTo changed readsProbe read readingOf choose
+unfolding obeyed readsProbe read readingOf choose
+order-fault ws memory f (Silent number) channel h r code = cc
 order-fault ws memory f (Refused number status) channel h r code = cc
-order-fault ws memory f (GetIo kind mask) channel h r code =
-    let b = and-true (not (eqb kind demand)) (named channel mask) r in
+order-fault ws memory f (GetIo valueType mask) channel h r code =
+    let b = and-true (not (eqb valueType demand)) (named channel mask) r in
     let reading : readingOf (getD memory channel 0) ≡ Fault = ap readingOf code in
-    let failed = value-fault ws memory kind channel (eqb-false kind demand (not-true _ (b .0))) reading in
-    ap (λ (g : Values). leaving ws (read g)) (group-fault (valueOf ws memory kind) channels 0 mask channel h (b .1) (rw zero-add failed))
+    let failed = value-fault ws memory valueType channel (eqb-false valueType demand (not-true _ (b .0))) reading in
+    ap (λ (g : Values). leaving ws (read g)) (group-fault (valueOf ws memory valueType) channels 0 mask channel h (b .1) (rw zero-add failed))
 order-fault ws memory f (SetIo mask) channel h r code = cc
 order-fault ws memory f (GetParam place) channel h r code = cc
 order-fault ws memory f (SetParam place saved value) channel h r code = cc
@@ -81,11 +81,9 @@ order-fault ws memory f (Reset which saved) channel h r code = cc
 -- the probe of a channel at fault, asked for alone or in a group: unless 12 or 11 comes first, the fault reply (9, D0h) and nothing else
 pub fault : (card : Card) (room : ℕ) (f : List ℕ) (channel : ℕ) → channel < channels → asksProbe f channel ≡ true → getD (card .memory) channel 0 ≡ faultCode
     → lucidReply card room f ≡ shell roomLeast card room (sent probeFault (faulted .bytes) card)
-unfolding lucidReply lucidWords asksProbe
+unfolding lucidReply asksProbe
 fault card room f channel h a code =
-    let b = and-true (lengthRight (length f)) (readsProbe (asked f) channel) a in
-    ap (λ (r : WordsReply). shell roomLeast card room (onWords card r))
-    (sym (yes _ _ _ _ (b .0) (sym (order-fault (card .words) (card .memory) f (asked f) channel h (b .1) code))))
+    ap (λ (r : WordsReply). shell roomLeast card room (onWords card r)) (order-fault (card .words) (card .memory) f (asked f) channel h a code)
 
 -- two memories that agree on the probes asked for
 group-same : (value value′ : ℕ → Values) (n k mask : ℕ) → ((channel : ℕ) → channel < n → named channel mask ≡ true → value (k + channel) ≡ value′ (k + channel))
@@ -105,23 +103,24 @@ group-same value value′ (suc n) k mask same =
     by true e rest = let here : value k ≡ value′ k = rw add-zero at (same zero (omega arith) e) in rw (e, here, rest)
     by false e rest = rw (e, rest)
 
-value-same : (ws memory memory′ : List ℕ) (kind channel : ℕ) → (eqb kind demand ≡ false → getD memory channel 0 ≡ getD memory′ channel 0)
-    → valueOf ws memory kind channel ≡ valueOf ws memory′ kind channel
+value-same : (ws memory memory′ : List ℕ) (valueType channel : ℕ) → (eqb valueType demand ≡ false → getD memory channel 0 ≡ getD memory′ channel 0)
+    → valueOf ws memory valueType channel ≡ valueOf ws memory′ valueType channel
 unfolding valueOf choose
-value-same ws memory memory′ kind channel same = by (eqb kind demand) refl
+value-same ws memory memory′ valueType channel same = by (eqb valueType demand) refl
   where
-    by : (t : Bool) → eqb kind demand ≡ t → valueOf ws memory kind channel ≡ valueOf ws memory′ kind channel
+    by : (t : Bool) → eqb valueType demand ≡ t → valueOf ws memory valueType channel ≡ valueOf ws memory′ valueType channel
     by true e = rw e
     by false e = rw (e, same e)
 
 order-same : (ws memory memory′ f : List ℕ) (order : Order) → ((channel : ℕ) → channel < channels → readsProbe order channel ≡ true → getD memory channel 0 ≡ getD memory′ channel 0)
     → obeyed ws memory f order ≡ obeyed ws memory′ f order
-unfolding answerTo changed readsProbe
+unfolding obeyed readsProbe
+order-same ws memory memory′ f (Silent number) same = refl
 order-same ws memory memory′ f (Refused number status) same = refl
-order-same ws memory memory′ f (GetIo kind mask) same =
+order-same ws memory memory′ f (GetIo valueType mask) same =
     ap (λ (g : Values). leaving ws (read g))
-    (group-same (valueOf ws memory kind) (valueOf ws memory′ kind) channels 0 mask
-    (λ channel h b. rw zero-add (value-same ws memory memory′ kind channel (λ e. same channel h (rw (e, b))))))
+    (group-same (valueOf ws memory valueType) (valueOf ws memory′ valueType) channels 0 mask
+    (λ channel h b. rw zero-add (value-same ws memory memory′ valueType channel (λ e. same channel h (rw (e, b))))))
 order-same ws memory memory′ f (SetIo mask) same = refl
 order-same ws memory memory′ f (GetParam place) same = refl
 order-same ws memory memory′ f (SetParam place saved value) same = refl
@@ -129,16 +128,12 @@ order-same ws memory memory′ f (Reset which saved) same = refl
 
 -- the reply depends on the codes of the probes asked for, and on no other byte of the memory
 pub asked-alone : (ws memory memory′ f : List ℕ) → ((channel : ℕ) → channel < channels → asksProbe f channel ≡ true → getD memory channel 0 ≡ getD memory′ channel 0)
-    → lucidWords ws memory f ≡ lucidWords ws memory′ f
-unfolding lucidWords asksProbe choose
-asked-alone ws memory memory′ f same = by (lengthRight (length f)) refl
-  where
-    by : (t : Bool) → lengthRight (length f) ≡ t → lucidWords ws memory f ≡ lucidWords ws memory′ f
-    by true e = rw e (order-same ws memory memory′ f (asked f) (λ channel h r. same channel h (rw (e, r))))
-    by false e = rw e
+    → obeyed ws memory f (asked f) ≡ obeyed ws memory′ f (asked f)
+unfolding asksProbe
+asked-alone ws memory memory′ f same = order-same ws memory memory′ f (asked f) same
 
 -- a frame that asks for no probe: the reply is the same for any two memories
-pub independent : (ws memory memory′ f : List ℕ) → ((channel : ℕ) → channel < channels → asksProbe f channel ≡ false) → lucidWords ws memory f ≡ lucidWords ws memory′ f
+pub independent : (ws memory memory′ f : List ℕ) → ((channel : ℕ) → channel < channels → asksProbe f channel ≡ false) → obeyed ws memory f (asked f) ≡ obeyed ws memory′ f (asked f)
 independent ws memory memory′ f none = asked-alone ws memory memory′ f (λ channel h a. let z : _≡_ {A = ℕ} 0 1 = cc (none channel h) in let y : ⊥ = omega arith in absurd y)
 
 -- the mask of GetIo and SetIo names channel P1 alone

@@ -1,10 +1,5 @@
-pub mod Bools
 pub mod Channels
-pub mod Lengths
-pub mod Judged
-pub mod Bytes
-pub mod Groups
-pub mod Replies
-pub mod Orders
+pub mod Frames
+pub mod Writes
 pub mod Laws
 pub mod Fits

@@ -7,7 +7,7 @@ use lib.Dec.{eqb}
 use lib.ListN.{length, getD, set, take}
 use Rattle.wire.specs.Choose.{choose}
 use Rattle.wire.specs.Word.{wordValues}
-use Rattle.card.specs.Numbers.{answered, frameForm, probeFault}
+use Rattle.card.specs.Numbers.{answered, probeFault}
 use Rattle.card.specs.Layout.{Card, demandsAt, parametersEach, parametersAt, savedParametersAt}
 use Rattle.card.specs.Fitness.{cycleDefault, floorDefault}
 use Rattle.card.specs.Probe.{readingOf}
@@ -15,11 +15,11 @@ use Rattle.card.specs.Reply.{Reply, WordsReply, Answer, onWords, leaving, roomL
 use Rattle.card.specs.declared.probe.Tenths.{Tenths}
 use Rattle.card.specs.declared.probe.Reading.{Reading}
 use Rattle.card.specs.declared.probe.Reading.the-variants.{Temperature, Fault}
-use Rattle.lucid.specs.Form.{lengthRight, fieldAt, channelsOf, demand, tenths, demandSize, tenthsSize, hundredthsSize, parameterSize, ok, errExecution, little, numberAt}
+use Rattle.lucid.specs.Form.{dataAt, channelsOf, demand, tenths, demandSize, tenthsSize, hundredthsSize, parameterSize, ok, errExecution, little, numberAt}
 use Rattle.lucid.specs.Frame.{asked}
 use Rattle.lucid.specs.declared.answer.Hundredths.{Hundredths}
 use Rattle.lucid.specs.declared.frame.Order.{Order}
-use Rattle.lucid.specs.declared.frame.Order.the-variants.{Refused, GetIo, SetIo, GetParam, SetParam, Reset}
+use Rattle.lucid.specs.declared.frame.Order.the-variants.{Silent, Refused, GetIo, SetIo, GetParam, SetParam, Reset}
 
 -- what is read of channels: the bytes of their values one after another, or a failed probe
 pub data Values : Type 0 where
@@ -47,17 +47,17 @@ hundredthsOf t = record { 0 = hundredthsPerTenth * t .0 % wordValues }
 
 -- a temperature in type 40h, else 41h
 unfoldable pub temperatureIn : ℕ → Tenths → List ℕ
-temperatureIn kind t = choose (eqb kind tenths) (little tenthsSize (t .0)) (little hundredthsSize (hundredthsOf t .0))
+temperatureIn valueType t = choose (eqb valueType tenths) (little tenthsSize (t .0)) (little hundredthsSize (hundredthsOf t .0))
 
 -- "In every probe reading a temperature is taken out of the reading, or the fault is answered"
 unfoldable pub readingIn : ℕ → Reading → Values
-readingIn kind (Temperature t) = Held (temperatureIn kind t)
-readingIn kind Fault = Failed
+readingIn valueType (Temperature t) = Held (temperatureIn valueType t)
+readingIn valueType Fault = Failed
 
 -- the value of a channel: its demand in type 10h, else its probe
 unfoldable pub valueOf : List ℕ → List ℕ → ℕ → ℕ → Values
-valueOf ws memory kind channel =
-    choose (eqb kind demand) (Held (little demandSize (getD ws (demandsAt + channel) 0))) (readingIn kind (readingOf (getD memory channel 0)))
+valueOf ws memory valueType channel =
+    choose (eqb valueType demand) (Held (little demandSize (getD ws (demandsAt + channel) 0))) (readingIn valueType (readingOf (getD memory channel 0)))
 
 -- "answer: status, LEN, data"
 abbrev pub told : ℕ → ℕ → List ℕ → Answer
@@ -66,6 +66,10 @@ told number status bytes = record { number = number; bytes = status ∷ length b
 -- "A refusal answers its status and LEN 0"
 abbrev pub refused : ℕ → ℕ → Answer
 refused number status = told number status []
+
+-- a refusal with no byte on the wire
+abbrev pub silence : ℕ → Answer
+silence number = record { number = number; bytes = [] }
 
 -- a command that was done and gives no data
 abbrev pub done : Answer
@@ -79,15 +83,6 @@ faulted = refused probeFault errExecution
 unfoldable pub read : Values → Answer
 read (Held bytes) = told answered ok bytes
 read Failed = faulted
-
--- what is answered to an order
-unfoldable pub answerTo : List ℕ → List ℕ → Order → Answer
-answerTo ws memory (Refused number status) = refused number status
-answerTo ws memory (GetIo kind mask) = read (group (valueOf ws memory kind) (channelsOf mask))
-answerTo ws memory (SetIo mask) = done
-answerTo ws memory (GetParam place) = told answered ok (little parameterSize (getD ws (parametersAt + place) 0))
-answerTo ws memory (SetParam place saved value) = done
-answerTo ws memory (Reset channel saved) = done
 
 -- the words with the demands of channels set, in their order, from the frame's bytes at an index on
 unfoldable pub demanded : List ℕ → List ℕ → ℕ → List ℕ → List ℕ
@@ -103,26 +98,19 @@ stored place saved value ws =
 unfoldable pub reset : ℕ → Bool → List ℕ → List ℕ
 reset channel saved ws = stored (parametersEach * channel + 1) saved floorDefault (stored (parametersEach * channel) saved cycleDefault ws)
 
--- what the words become by an order
-unfoldable pub changed : List ℕ → List ℕ → Order → List ℕ
-changed ws f (Refused number status) = ws
-changed ws f (GetIo kind mask) = ws
-changed ws f (SetIo mask) = demanded (channelsOf mask) f fieldAt ws
-changed ws f (GetParam place) = ws
-changed ws f (SetParam place saved value) = stored place saved value ws
-changed ws f (Reset channel saved) = reset channel saved ws
-
--- what the card does with an order
-abbrev pub obeyed : List ℕ → List ℕ → List ℕ → Order → WordsReply
-obeyed ws memory f order = leaving (changed ws f order) (answerTo ws memory order)
-
--- what the card does with a frame; one shorter than the shortest or longer than the longest is 3, silent
-unfoldable pub lucidWords : List ℕ → List ℕ → List ℕ → WordsReply
-lucidWords ws memory f = choose (lengthRight (length f)) (obeyed ws memory f (asked f)) (leaving ws (record { number = frameForm; bytes = [] }))
+-- what the card does with an order: what it answers, and the words that it leaves
+unfoldable pub obeyed : List ℕ → List ℕ → List ℕ → Order → WordsReply
+obeyed ws memory f (Silent number) = leaving ws (silence number)
+obeyed ws memory f (Refused number status) = leaving ws (refused number status)
+obeyed ws memory f (GetIo valueType mask) = leaving ws (read (group (valueOf ws memory valueType) (channelsOf mask)))
+obeyed ws memory f (SetIo mask) = leaving (demanded (channelsOf mask) f dataAt ws) done
+obeyed ws memory f (GetParam place) = leaving ws (told answered ok (little parameterSize (getD ws (parametersAt + place) 0)))
+obeyed ws memory f (SetParam place saved value) = leaving (stored place saved value ws) done
+obeyed ws memory f (Reset channel saved) = leaving (reset channel saved ws) done
 
 -- the entry's whole meaning; room is the answer buffer's length
 unfoldable pub lucidReply : Card → ℕ → List ℕ → Reply
-lucidReply card room f = shell roomLeast card room (onWords card (lucidWords (card .words) (card .memory) f))
+lucidReply card room f = shell roomLeast card room (onWords card (obeyed (card .words) (card .memory) f (asked f)))
 
 -- the mask names a channel: the channel's bit, counted from the lowest
 unfoldable pub named : ℕ → ℕ → Bool
@@ -131,8 +119,9 @@ named (suc channel) mask = named channel (mask / 2)
 
 -- an order asks for the probe of a channel
 unfoldable pub readsProbe : Order → ℕ → Bool
+readsProbe (Silent number) channel = false
 readsProbe (Refused number status) channel = false
-readsProbe (GetIo kind mask) channel = not (eqb kind demand) && named channel mask
+readsProbe (GetIo valueType mask) channel = not (eqb valueType demand) && named channel mask
 readsProbe (SetIo mask) channel = false
 readsProbe (GetParam place) channel = false
 readsProbe (SetParam place saved value) channel = false
@@ -140,7 +129,7 @@ readsProbe (Reset which saved) channel = false
 
 -- a frame does
 unfoldable pub asksProbe : List ℕ → ℕ → Bool
-asksProbe f channel = lengthRight (length f) && readsProbe (asked f) channel
+asksProbe f channel = readsProbe (asked f) channel
 
 -- bytes were put at the end of the n bytes held so far
 pub record Grew (bytes values : List ℕ) (n len : ℕ) (values′ : List ℕ) : Type 0 where

@@ -1,10 +1,11 @@
 -- The form of a LucidControl frame: OPC, P1, P2, LEN, data. Document 01, "LucidControl"; names by source document 002.
 use Prim.Native.Nat.{ℕ, zero, suc, _+_, _-_, _*_, _/_, _%_}
-use mathlib.Core.Bool.{Bool, _&&_}
+use mathlib.Core.Bool.{Bool}
 use mathlib.Core.List.{List, [], _∷_}
-use lib.Dec.{leb, eqb}
+use lib.Dec.{eqb}
 use lib.ListN.{getD}
 use Rattle.wire.specs.Choose.{choose}
+use Rattle.wire.specs.Length.{between}
 use Rattle.wire.specs.Sum.{byteValues}
 use Rattle.card.specs.Layout.{channels}
 
@@ -17,9 +18,9 @@ longest = 259
 
 -- a frame may have n bytes
 abbrev pub lengthRight : ℕ → Bool
-lengthRight n = leb shortest n && leb n longest
+lengthRight n = between shortest longest n
 
--- where the fields of a frame stand
+-- where the parts of a frame stand
 abbrev pub opcAt : ℕ
 opcAt = 0
 
@@ -32,8 +33,8 @@ p2At = 2
 abbrev pub lenAt : ℕ
 lenAt = 3
 
-abbrev pub fieldAt : ℕ
-fieldAt = 4
+abbrev pub dataAt : ℕ
+dataAt = 4
 
 -- OPC: the commands
 abbrev pub getIo : ℕ
@@ -91,7 +92,7 @@ abbrev pub valuesMost : ℕ
 valuesMost = channels * hundredthsSize
 
 unfoldable pub sizeOf : ℕ → ℕ
-sizeOf kind = choose (eqb kind demand) demandSize (choose (eqb kind tenths) tenthsSize hundredthsSize)
+sizeOf valueType = choose (eqb valueType demand) demandSize (choose (eqb valueType tenths) tenthsSize hundredthsSize)
 
 -- P2 of SetParam: its option bits, and those that are none
 abbrev pub default : ℕ
@@ -103,7 +104,7 @@ persistent = 0x80
 abbrev pub otherBits : ℕ
 otherBits = 0xFF - (default + persistent)
 
--- the data of SetParam and GetParam: an address, and a value after it
+-- the data of SetParam and GetParam: an address; and of SetParam a value after it
 abbrev pub cycleAddress : ℕ
 cycleAddress = 0x1110
 
@@ -112,6 +113,9 @@ floorAddress = 0x1120
 
 abbrev pub addressSize : ℕ
 addressSize = 2
+
+abbrev pub valueAt : ℕ
+valueAt = dataAt + addressSize
 
 abbrev pub parameterSize : ℕ
 parameterSize = 4

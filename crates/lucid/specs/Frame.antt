@@ -1,21 +1,22 @@
 -- What a LucidControl frame asks: document 01, "LucidControl", "Order". A line of `asked` is a test, and the number and the status if it
--- fails. A test that a command has no use for passes.
+-- fails, or a command that has no further test. A test that a command has no use for passes.
 use Prim.Native.Nat.{ℕ, _+_, _*_, _^_}
-use mathlib.Core.Bool.{Bool, true, _&&_, _||_, not}
+use mathlib.Core.Bool.{Bool, _&&_, _||_, not}
 use mathlib.Core.List.{List}
 use lib.Bits.{bitAnd}
 use lib.Dec.{leb, ltb, eqb}
 use lib.ListN.{length, getD}
 use Rattle.wire.specs.Choose.{choose}
 use Rattle.card.specs.Numbers.{frameForm, commandUnknown, rangeUnknown, valueOutside, readOnly}
-use Rattle.card.specs.Layout.{channels, parametersEach}
-use Rattle.card.specs.Fitness.{inSpan, cycleLeast, cycleMost, floorMost}
+use Rattle.card.specs.Layout.{channels, parametersAt, parametersEach}
+use Rattle.card.specs.Fitness.{inRange}
 use Rattle.lucid.specs.Form.{
+  lengthRight,
   opcAt,
   p1At,
   p2At,
   lenAt,
-  fieldAt,
+  dataAt,
   getIo,
   getIoGroup,
   setIo,
@@ -34,6 +35,7 @@ use Rattle.lucid.specs.Form.{
   cycleAddress,
   floorAddress,
   addressSize,
+  valueAt,
   parameterSize,
   noSupport,
   invLength,
@@ -46,13 +48,17 @@ use Rattle.lucid.specs.Form.{
   numberAt,
 }
 use Rattle.lucid.specs.declared.frame.Order.{Order}
-use Rattle.lucid.specs.declared.frame.Order.the-variants.{Refused, GetIo, SetIo, GetParam, SetParam, Reset}
+use Rattle.lucid.specs.declared.frame.Order.the-variants.{Silent, Refused, GetIo, SetIo, GetParam, SetParam, Reset}
+
+-- a test, and the number if it fails, with no byte on the wire
+abbrev pub silently : Bool → ℕ → Order → Order
+silently test number rest = choose test rest (Silent number)
 
 -- a test, and the number and the status if it fails
 abbrev pub unless : Bool → ℕ → ℕ → Order → Order
 unless test number status rest = choose test rest (Refused number status)
 
--- the fields of a frame
+-- OPC, P1, P2 and LEN of a frame
 abbrev pub opcIn : List ℕ → ℕ
 opcIn f = getD f opcAt 0
 
@@ -125,58 +131,36 @@ lenFor opc p1 p2 =
     (choose (isReset opc p2) 0
     (addressSize + parameterSize))))
 
--- the frame's data begin with an address; a value follows it
-abbrev pub hasAddress : ℕ → ℕ → Bool
-hasAddress opc p2 = isParam opc && not (isReset opc p2)
-
-abbrev pub hasValue : ℕ → ℕ → Bool
-hasValue opc p2 = eqb opc setParam && not (isReset opc p2)
-
 -- the address and the value of a frame that has them
 abbrev pub addressIn : List ℕ → ℕ
-addressIn f = numberAt addressSize f fieldAt
+addressIn f = numberAt addressSize f dataAt
 
 abbrev pub valueIn : List ℕ → ℕ
-valueIn f = numberAt parameterSize f (fieldAt + addressSize)
+valueIn f = numberAt parameterSize f valueAt
 
 -- "parameter address (6, BAh)"
-unfoldable pub addressKnown : ℕ → ℕ → List ℕ → Bool
-addressKnown opc p2 f = choose (hasAddress opc p2) (eqb (addressIn f) cycleAddress || eqb (addressIn f) floorAddress) true
-
--- a value in the range of the parameter at an address
-unfoldable pub inRange : ℕ → ℕ → Bool
-inRange address value = choose (eqb address cycleAddress) (inSpan cycleLeast cycleMost value) (inSpan 0 floorMost value)
-
--- "value (7, C0h)"
-unfoldable pub valueRight : ℕ → ℕ → List ℕ → Bool
-valueRight opc p2 f = choose (hasValue opc p2) (inRange (addressIn f) (valueIn f)) true
+abbrev pub addressKnown : ℕ → Bool
+addressKnown address = eqb address cycleAddress || eqb address floorAddress
 
 -- a parameter's place among the card's: channel by channel, 1110h first
 unfoldable pub placeOf : ℕ → ℕ → ℕ
 placeOf channel address = choose (eqb address cycleAddress) (parametersEach * channel) (parametersEach * channel + 1)
 
--- what a frame that passed every test asks
-unfoldable pub orderedParameter : ℕ → ℕ → ℕ → List ℕ → Order
-orderedParameter opc p1 p2 f =
-    choose (eqb opc getParam) (GetParam (placeOf p1 (addressIn f)))
-    (SetParam (placeOf p1 (addressIn f)) (saves p2) (valueIn f))
+-- "value (7, C0h)": it is in the range of the word of its parameter
+abbrev pub valueRight : ℕ → ℕ → Bool
+valueRight place value = inRange (parametersAt + place) value
 
-unfoldable pub ordered : ℕ → ℕ → ℕ → List ℕ → Order
-ordered opc p1 p2 f =
-    choose (isGet opc) (GetIo p2 (maskOf opc p1))
-    (choose (isSet opc) (SetIo (maskOf opc p1))
-    (choose (isReset opc p2) (Reset p1 (saves p2))
-    (orderedParameter opc p1 p2 f)))
-
--- what a frame asks, if its length is that of a frame. "Order: LEN against slice (3, B0h); OPC (5, A0h); channel above 3 (6, B8h) or mask 0 or
--- above 0Fh (6, B2h); type unknown (7, B6h), probe written (8, B6h), option other than bits 01h and 80h, or nonzero in GetParam (7, B4h);
--- LEN for the command (3, B0h); parameter address (6, BAh); value (7, C0h); fault (9, D0h)": the fault is found in answering
+-- what a frame asks. "LucidControl 4 and 259. Outside these: 3, silent." "Order: LEN against slice (3, B0h); OPC (5, A0h); channel above 3 (6, B8h)
+-- or mask 0 or above 0Fh (6, B2h); type unknown (7, B6h), probe written (8, B6h), option other than bits 01h and 80h, or nonzero in GetParam
+-- (7, B4h); LEN for the command (3, B0h); parameter address (6, BAh); value (7, C0h); fault (9, D0h)": the fault is found in answering
 unfoldable pub asked : List ℕ → Order
 asked f =
     let opc = opcIn f in
     let p1 = p1In f in
     let p2 = p2In f in
-    unless (eqb (length f) (fieldAt + lenIn f)) frameForm invLength
+    let place = placeOf p1 (addressIn f) in
+    silently (lengthRight (length f)) frameForm
+    (unless (eqb (length f) (dataAt + lenIn f)) frameForm invLength
     (unless (opcKnown opc) commandUnknown noSupport
     (unless (channelRight opc p1) rangeUnknown invChannel
     (unless (maskRight opc p1) rangeUnknown invP1
@@ -184,6 +168,10 @@ asked f =
     (unless (typeWritable opc p2) readOnly invValue
     (unless (optionRight opc p2) valueOutside invP2
     (unless (eqb (lenIn f) (lenFor opc p1 p2)) frameForm invLength
-    (unless (addressKnown opc p2 f) rangeUnknown invParam
-    (unless (valueRight opc p2 f) valueOutside invData
-    (ordered opc p1 p2 f))))))))))
+    (choose (isGet opc) (GetIo p2 (maskOf opc p1))
+    (choose (isSet opc) (SetIo (maskOf opc p1))
+    (choose (isReset opc p2) (Reset p1 (saves p2))
+    (unless (addressKnown (addressIn f)) rangeUnknown invParam
+    (choose (eqb opc getParam) (GetParam place)
+    (unless (valueRight place (valueIn f)) valueOutside invData
+    (SetParam place (saves p2) (valueIn f))))))))))))))))

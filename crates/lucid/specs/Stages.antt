@@ -1,24 +1,54 @@
--- The order of `asked` by stages, for the functions that judge: parts of `asked`, word for word; and what is known between them.
+-- The order of `asked` by stages, for the functions that judge: parts of `asked`, word for word; and what is known between them and of the order.
 use Prim.{Unit}
-use Prim.Native.Nat.{ℕ, _+_, _*_, _<_}
+use Prim.Native.Nat.{ℕ, _+_, _*_, _≤_, _<_}
 use mathlib.Core.Path.{_≡_}
 use mathlib.Core.Bool.{true}
 use mathlib.Core.List.{List}
 use lib.Dec.{eqb}
 use lib.ListN.{length}
+use Rattle.wire.specs.Choose.{choose}
 use Rattle.card.specs.Numbers.{frameForm, rangeUnknown, valueOutside, readOnly}
 use Rattle.card.specs.Layout.{channels, parameterCount}
-use Rattle.lucid.specs.Form.{fieldAt, channelsOf, demandSize, invLength, invP2, invValue, invParam, invData}
-use Rattle.lucid.specs.Frame.{unless, lenIn, opcKnown, channelRight, typeKnown, typeWritable, optionRight, lenFor, addressKnown, valueRight, ordered}
+use Rattle.lucid.specs.Form.{dataAt, valueAt, parameterSize, getParam, channelsOf, demandSize, invLength, invP2, invValue, invParam, invData}
+use Rattle.lucid.specs.Frame.{
+  unless,
+  lenIn,
+  isGet,
+  isSet,
+  isReset,
+  saves,
+  opcKnown,
+  channelRight,
+  typeKnown,
+  typeWritable,
+  optionRight,
+  maskOf,
+  lenFor,
+  addressIn,
+  valueIn,
+  addressKnown,
+  placeOf,
+  valueRight,
+}
 use Rattle.lucid.specs.declared.frame.Order.{Order}
-use Rattle.lucid.specs.declared.frame.Order.the-variants.{Refused, GetIo, SetIo, GetParam, SetParam, Reset}
+use Rattle.lucid.specs.declared.frame.Order.the-variants.{Silent, Refused, GetIo, SetIo, GetParam, SetParam, Reset}
 
--- a frame whose LEN is right for its command
+-- a command with an address
 unfoldable pub parameterAsked : ℕ → ℕ → ℕ → List ℕ → Order
 parameterAsked opc p1 p2 f =
-    unless (addressKnown opc p2 f) rangeUnknown invParam
-    (unless (valueRight opc p2 f) valueOutside invData
-    (ordered opc p1 p2 f))
+    let place = placeOf p1 (addressIn f) in
+    unless (addressKnown (addressIn f)) rangeUnknown invParam
+    (choose (eqb opc getParam) (GetParam place)
+    (unless (valueRight place (valueIn f)) valueOutside invData
+    (SetParam place (saves p2) (valueIn f))))
+
+-- a frame whose LEN is right for its command
+unfoldable pub commandAsked : ℕ → ℕ → ℕ → List ℕ → Order
+commandAsked opc p1 p2 f =
+    choose (isGet opc) (GetIo p2 (maskOf opc p1))
+    (choose (isSet opc) (SetIo (maskOf opc p1))
+    (choose (isReset opc p2) (Reset p1 (saves p2))
+    (parameterAsked opc p1 p2 f)))
 
 -- a frame whose command and channels are right
 unfoldable pub optionAsked : ℕ → ℕ → ℕ → List ℕ → Order
@@ -27,28 +57,27 @@ optionAsked opc p1 p2 f =
     (unless (typeWritable opc p2) readOnly invValue
     (unless (optionRight opc p2) valueOutside invP2
     (unless (eqb (lenIn f) (lenFor opc p1 p2)) frameForm invLength
-    (parameterAsked opc p1 p2 f))))
+    (commandAsked opc p1 p2 f))))
 
 -- what is known of a frame once its LEN was found right for its command
 pub record Sized (opc p1 p2 : ℕ) (f : List ℕ) : Type 0 where
   pub known : opcKnown opc ≡ true
   pub channel : channelRight opc p1 ≡ true
-  pub measured : length f ≡ fieldAt + lenFor opc p1 p2
+  pub measured : length f ≡ dataAt + lenFor opc p1 p2
 
--- what is known of an order that a frame asks: the places that it names are the card's
-abbrev pub Placed : Order → Type 0
-Placed (Refused number status) = Unit {0}
-Placed (GetIo kind mask) = Unit {0}
-Placed (SetIo mask) = Unit {0}
-Placed (GetParam place) = place < parameterCount
-Placed (SetParam place saved value) = place < parameterCount
-Placed (Reset channel saved) = channel < channels
+-- and of one with an address: P1 is a channel, and the address and, unless it is read, the value lie within the frame
+pub record Addressed (opc p1 : ℕ) (f : List ℕ) : Type 0 where
+  pub channel : p1 < channels
+  pub address : valueAt ≤ length f
+  pub value : (opc ≡ getParam → ⊥) → valueAt + parameterSize ≤ length f
 
--- and SetIo has two bytes of data for each channel
-abbrev pub Supplied : List ℕ → Order → Type 0
-Supplied f (Refused number status) = Unit {0}
-Supplied f (GetIo kind mask) = Unit {0}
-Supplied f (SetIo mask) = length f ≡ fieldAt + demandSize * length (channelsOf mask)
-Supplied f (GetParam place) = Unit {0}
-Supplied f (SetParam place saved value) = Unit {0}
-Supplied f (Reset channel saved) = Unit {0}
+-- what is known of an order that a frame asks: the channels and places that it names are the card's, SetIo has its data for each channel, and a
+-- parameter's value is in its range
+abbrev pub Sound : List ℕ → Order → Type 0
+Sound f (Silent number) = Unit {0}
+Sound f (Refused number status) = Unit {0}
+Sound f (GetIo valueType mask) = Unit {0}
+Sound f (SetIo mask) = length f ≡ dataAt + demandSize * length (channelsOf mask)
+Sound f (GetParam place) = place < parameterCount
+Sound f (SetParam place saved value) = (place < parameterCount) × (valueRight place value ≡ true)
+Sound f (Reset channel saved) = channel < channels

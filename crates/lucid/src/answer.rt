@@ -1,7 +1,6 @@
 // What the card answers to a LucidControl frame, and what its words become. Document 01, "LucidControl".
 use crate::form::Lucid;
 use crate::frame::Order;
-use crate::frame::order_of;
 use crate::frame::pair;
 use card::Outcome;
 use card::fitness::CYCLE_DEFAULT;
@@ -12,7 +11,6 @@ use card::layout::PARAMETERS;
 use card::layout::PARAMETERS_EACH;
 use card::layout::SAVED_PARAMETERS;
 use card::numbers::ANSWERED;
-use card::numbers::FRAME_FORM;
 use card::numbers::PROBE_FAULT;
 use card::probe::Reading;
 use card::probe::Tenths;
@@ -24,9 +22,9 @@ ghost use lib.ListN.{length, take, getD, set};
 ghost use Rattle.card.specs.Numbers.{answered};
 ghost use Rattle.card.specs.Layout.{channels, demandsAt, parameterCount, parametersAt, wordCount, memorySize};
 ghost use Rattle.card.specs.Reply.{roomLeast, GaveWords, Told};
-ghost use Rattle.lucid.specs.Form.{fieldAt, channelsOf, demandSize, tenthsSize, hundredthsSize, parameterSize, valuesMost, ok, little};
-ghost use Rattle.lucid.specs.Stages.{Placed, Supplied};
-ghost use Rattle.lucid.specs.Answer.{group, hundredthsOf, temperatureIn, valueOf, told, refused, read, answerTo, demanded, stored, reset, changed, lucidWords, Grew};
+ghost use Rattle.lucid.specs.Form.{dataAt, channelsOf, demandSize, tenthsSize, hundredthsSize, parameterSize, valuesMost, ok, little};
+ghost use Rattle.lucid.specs.Stages.{Sound};
+ghost use Rattle.lucid.specs.Answer.{group, hundredthsOf, temperatureIn, valueOf, told, refused, read, demanded, stored, reset, obeyed, Grew};
 
 // The most bytes of data that an answer has: four channels in type 41h.
 const VALUES: usize = CHANNELS * Lucid::HUNDREDTHS_SIZE as usize;
@@ -105,11 +103,11 @@ fn put_hundredths(h: Hundredths, values: &mut [u8], n: usize) -> usize
 }
 
 // A temperature in the type asked.
-fn put_temperature(kind: u8, t: Tenths, values: &mut [u8], n: usize) -> usize
+fn put_temperature(value_type: u8, t: Tenths, values: &mut [u8], n: usize) -> usize
     requires { ⌜ n + hundredthsSize ≤ length (now values) ⌝ }
-    ensures { λ r. ⌜ Grew (temperatureIn kind t) (now (values .entry)) n r (now (values .exit)) ⌝ }
+    ensures { λ r. ⌜ Grew (temperatureIn «value_type» t) (now (values .entry)) n r (now (values .exit)) ⌝ }
 {
-    if kind == Lucid::TENTHS {
+    if value_type == Lucid::TENTHS {
         return put_tenths(t, values, n);
     }
     put_hundredths(Hundredths::of(t), values, n)
@@ -156,8 +154,8 @@ fn set_demand(words: &mut [u32], channel: usize, demand: u32)
 
 // Sets the demands of the channels that a mask names, lowest first.
 fn set_demands(words: &mut [u32], mask: u8, f: &[u8])
-    requires { ⌜ (length (now words) ≡ wordCount) × (length (now f) ≡ fieldAt + demandSize * length (channelsOf mask)) ⌝ }
-    ensures { λ _. ⌜ now (words .exit) ≡ demanded (channelsOf mask) (now (f .entry)) fieldAt (now (words .entry)) ⌝ }
+    requires { ⌜ (length (now words) ≡ wordCount) × (length (now f) ≡ dataAt + demandSize * length (channelsOf mask)) ⌝ }
+    ensures { λ _. ⌜ now (words .exit) ≡ demanded (channelsOf mask) (now (f .entry)) dataAt (now (words .entry)) ⌝ }
 {
     let mut left = mask;
     let mut at = Lucid::DATA;
@@ -174,9 +172,9 @@ fn set_demands(words: &mut [u32], mask: u8, f: &[u8])
 }
 
 // Answers the values of the channels that a mask names, lowest first; or the fault, with nothing of the group in it.
-fn read_channels(words: &[u32], memory: &[u8], kind: u8, mask: u8, out: &mut [u8]) -> Outcome
+fn read_channels(words: &[u32], memory: &[u8], value_type: u8, mask: u8, out: &mut [u8]) -> Outcome
     requires { ⌜ (length (now words) ≡ wordCount) × ((length (now memory) ≡ memorySize) × (roomLeast ≤ length (now out))) ⌝ }
-    ensures { λ r. ⌜ Told (read (group (valueOf (now (words .entry)) (now (memory .entry)) kind) (channelsOf mask))) (now (out .entry)) (r .number) (r .len) (now (out .exit)) ⌝ }
+    ensures { λ r. ⌜ Told (read (group (valueOf (now (words .entry)) (now (memory .entry)) «value_type») (channelsOf mask))) (now (out .entry)) (r .number) (r .len) (now (out .exit)) ⌝ }
 {
     let mut values = NO_VALUES;
     let mut len = 0;
@@ -184,7 +182,7 @@ fn read_channels(words: &[u32], memory: &[u8], kind: u8, mask: u8, out: &mut [u8
     let mut channel = 0;
     while channel < CHANNELS {
         if left % 2 == 1 {
-            if kind == Lucid::DEMAND {
+            if value_type == Lucid::DEMAND {
                 len = put_little(
                     words[DEMANDS + channel],
                     Lucid::DEMAND_SIZE as usize,
@@ -196,7 +194,7 @@ fn read_channels(words: &[u32], memory: &[u8], kind: u8, mask: u8, out: &mut [u8
                 let Reading::Temperature(t) = reading else {
                     return respond(out, PROBE_FAULT, Lucid::ERR_EXECUTION, &values, 0);
                 };
-                len = put_temperature(kind, t, &mut values, len);
+                len = put_temperature(value_type, t, &mut values, len);
             }
         }
         left = left / 2;
@@ -205,45 +203,33 @@ fn read_channels(words: &[u32], memory: &[u8], kind: u8, mask: u8, out: &mut [u8
     respond(out, ANSWERED, Lucid::OK, &values, len)
 }
 
-// Answers an order.
-fn answer(words: &[u32], memory: &[u8], order: Order, out: &mut [u8]) -> Outcome
-    requires { ⌜ ((length (now words) ≡ wordCount) × (length (now memory) ≡ memorySize)) × (Placed order × (roomLeast ≤ length (now out))) ⌝ }
-    ensures { λ r. ⌜ Told (answerTo (now (words .entry)) (now (memory .entry)) order) (now (out .entry)) (r .number) (r .len) (now (out .exit)) ⌝ }
+// Carries out an order on the words of a fit card.
+pub(crate) fn obey(
+    words: &mut [u32],
+    memory: &[u8],
+    f: &[u8],
+    order: Order,
+    out: &mut [u8],
+) -> Outcome
+    requires { ⌜ ((length (now words) ≡ wordCount) × (length (now memory) ≡ memorySize)) × (Sound (now f) order × (roomLeast ≤ length (now out))) ⌝ }
+    ensures { λ r. ⌜ GaveWords (obeyed (now (words .entry)) (now (memory .entry)) (now (f .entry)) order) (now (out .entry)) (r .number) (r .len) (now (words .exit)) (now (out .exit)) ⌝ }
 {
     match order {
+        Order::Silent(number) => Outcome { number, len: 0 },
         Order::Refused(number, status) => tell(out, number, status),
-        Order::GetIo(kind, mask) => read_channels(words, memory, kind, mask, out),
+        Order::GetIo(value_type, mask) => read_channels(words, memory, value_type, mask, out),
+        Order::SetIo(mask) => {
+            set_demands(words, mask, f);
+            tell(out, ANSWERED, Lucid::OK)
+        }
         Order::GetParam(place) => read_parameter(words, place, out),
-        _ => tell(out, ANSWERED, Lucid::OK),
+        Order::SetParam(place, saved, value) => {
+            store(words, place as usize, saved, value);
+            tell(out, ANSWERED, Lucid::OK)
+        }
+        Order::Reset(channel, saved) => {
+            reset(words, channel as usize, saved);
+            tell(out, ANSWERED, Lucid::OK)
+        }
     }
-}
-
-// Does what an order changes.
-fn change(words: &mut [u32], f: &[u8], order: Order)
-    requires { ⌜ (length (now words) ≡ wordCount) × (Placed order × Supplied (now f) order) ⌝ }
-    ensures { λ _. ⌜ now (words .exit) ≡ changed (now (words .entry)) (now (f .entry)) order ⌝ }
-{
-    match order {
-        Order::SetIo(mask) => set_demands(words, mask, f),
-        Order::SetParam(place, saved, value) => store(words, place as usize, saved, value),
-        Order::Reset(channel, saved) => reset(words, channel as usize, saved),
-        _ => {}
-    }
-}
-
-// What the card does with a frame.
-pub(crate) fn obey(words: &mut [u32], memory: &[u8], f: &[u8], out: &mut [u8]) -> Outcome
-    requires { ⌜ (length (now words) ≡ wordCount) × ((length (now memory) ≡ memorySize) × (roomLeast ≤ length (now out))) ⌝ }
-    ensures { λ r. ⌜ GaveWords (lucidWords (now (words .entry)) (now (memory .entry)) (now (f .entry))) (now (out .entry)) (r .number) (r .len) (now (words .exit)) (now (out .exit)) ⌝ }
-{
-    if !Lucid::fits(f.len()) {
-        return Outcome {
-            number: FRAME_FORM,
-            len: 0,
-        };
-    }
-    let order = order_of(f);
-    let given = answer(words, memory, order, out);
-    change(words, f, order);
-    given
 }

@@ -10,7 +10,7 @@ impl Lucid {
     pub const SHORTEST: usize = 4;
 
     pub const LONGEST: usize = 259;
-    // Where the fields of a frame stand; and the length of an answer's head, status and LEN.
+    // Where the parts of a frame stand; and the length of an answer's head, status and LEN.
     pub const OPC: usize = 0;
 
     pub const P1: usize = 1;
@@ -54,12 +54,14 @@ impl Lucid {
     pub const PERSISTENT: u8 = 0x80;
 
     pub const OTHER_BITS: u8 = 0xFF - (Lucid::DEFAULT + Lucid::PERSISTENT);
-    // The data of SetParam and GetParam: an address, and a value after it.
+    // The data of SetParam and GetParam: an address; and of SetParam a value after it.
     pub const CYCLE: u32 = 0x1110;
 
     pub const FLOOR: u32 = 0x1120;
 
     pub const ADDRESS_SIZE: u8 = 2;
+
+    pub const VALUE: usize = Lucid::DATA + Lucid::ADDRESS_SIZE as usize;
 
     pub const PARAMETER_SIZE: u8 = 4;
     // Statuses.
@@ -91,13 +93,13 @@ impl Lucid {
     }
 
     // How many bytes a value of a type has.
-    pub fn size(kind: u8) -> u8
-        ensures { λ r. ⌜ (r ≡ sizeOf kind) × (r ≤ hundredthsSize) ⌝ }
+    pub fn size(value_type: u8) -> u8
+        ensures { λ r. ⌜ (r ≡ sizeOf «value_type») × (r ≤ hundredthsSize) ⌝ }
     {
-        if kind == Lucid::DEMAND {
+        if value_type == Lucid::DEMAND {
             return Lucid::DEMAND_SIZE;
         }
-        if kind == Lucid::TENTHS {
+        if value_type == Lucid::TENTHS {
             return Lucid::TENTHS_SIZE;
         }
         Lucid::HUNDREDTHS_SIZE

@@ -1,11 +1,9 @@
 // What a LucidControl frame asks: document 01's order, a test and its refusal at a time.
 use crate::form::Lucid;
 use card::change::address;
-use card::fitness::CYCLE_LEAST;
-use card::fitness::CYCLE_MOST;
-use card::fitness::FLOOR_MOST;
-use card::fitness::in_span;
+use card::fitness::in_range;
 use card::layout::CHANNELS;
+use card::layout::PARAMETERS;
 use card::layout::PARAMETERS_EACH;
 use card::numbers::COMMAND_UNKNOWN;
 use card::numbers::FRAME_FORM;
@@ -19,12 +17,9 @@ ghost use Prim.Native.Nat.{_+_, _*_, _<_, _≤_};
 ghost use lib.ListN.{length};
 ghost use Rattle.wire.specs.Sum.{byteValues};
 ghost use Rattle.card.specs.Layout.{channels};
-ghost use Rattle.lucid.specs.Form.{channelsOf, pairSize, numberAt, fieldAt, addressSize, parameterSize, shortest, getParam};
-ghost use Rattle.lucid.specs.Frame.{isGet, isSet, isGroup, isParam, isReset, saves, opcKnown, channelRight, maskRight, typeKnown, typeWritable, optionRight, maskOf, lenFor, hasAddress, hasValue, valueIn, addressKnown, inRange, valueRight, placeOf, orderedParameter, ordered, asked, lenIn};
-ghost use Rattle.lucid.specs.Stages.{parameterAsked, optionAsked, Sized};
-
-// Where the value of SetParam stands.
-const VALUE: usize = Lucid::DATA + Lucid::ADDRESS_SIZE as usize;
+ghost use Rattle.lucid.specs.Form.{channelsOf, pairSize, numberAt, dataAt, valueAt, parameterSize};
+ghost use Rattle.lucid.specs.Frame.{isGet, isSet, isGroup, isParam, isReset, saves, opcKnown, channelRight, maskRight, typeKnown, typeWritable, optionRight, maskOf, lenFor, valueIn, addressKnown, placeOf, asked, lenIn};
+ghost use Rattle.lucid.specs.Stages.{parameterAsked, commandAsked, optionAsked, Sized, Addressed};
 
 // A number of two bytes: its bytes, and how many values it has.
 const PAIR: usize = 2;
@@ -35,7 +30,9 @@ const PAIR_VALUES: u32 = BYTE_VALUES * BYTE_VALUES;
 const EACH: u8 = PARAMETERS_EACH as u8;
 
 pub enum Order {
-    // The number and the status.
+    // A refusal with no byte on the wire: the number.
+    Silent(u8),
+    // A refusal: the number and the status.
     Refused(u8, u8),
     // A type, and the mask of the channels whose values are asked.
     GetIo(u8, u8),
@@ -166,20 +163,6 @@ fn len_for(opc: u8, p1: u8, p2: u8) -> u8
     Lucid::ADDRESS_SIZE + Lucid::PARAMETER_SIZE
 }
 
-// Whether the data begin with a parameter's address.
-fn has_address(opc: u8, p2: u8) -> bool
-    ensures { λ r. ⌜ r ≡ hasAddress opc p2 ⌝ }
-{
-    is_param(opc) & !is_reset(opc, p2)
-}
-
-// Whether a value follows it.
-fn has_value(opc: u8, p2: u8) -> bool
-    ensures { λ r. ⌜ r ≡ hasValue opc p2 ⌝ }
-{
-    (opc == Lucid::SET_PARAM) & !is_reset(opc, p2)
-}
-
 // The number that two bytes are, low byte first.
 pub(crate) fn pair(f: &[u8], at: usize) -> u32
     requires { ⌜ at + 1 < length (now f) ⌝ }
@@ -192,40 +175,16 @@ pub(crate) fn pair(f: &[u8], at: usize) -> u32
 
 // The value of a frame that has one.
 fn value_in(f: &[u8]) -> u32
-    requires { ⌜ fieldAt + addressSize + parameterSize ≤ length (now f) ⌝ }
+    requires { ⌜ valueAt + parameterSize ≤ length (now f) ⌝ }
     ensures { λ r. ⌜ r ≡ valueIn (now (f .entry)) ⌝ }
 {
-    pair(f, VALUE) + PAIR_VALUES * pair(f, VALUE + PAIR)
+    pair(f, Lucid::VALUE) + PAIR_VALUES * pair(f, Lucid::VALUE + PAIR)
 }
 
-fn address_known(opc: u8, p2: u8, f: &[u8]) -> bool
-    requires { ⌜ (hasAddress opc p2 ≡ true → fieldAt + addressSize ≤ length (now f)) ⌝ }
-    ensures { λ r. ⌜ r ≡ addressKnown opc p2 (now (f .entry)) ⌝ }
+fn address_known(address: u32) -> bool
+    ensures { λ r. ⌜ r ≡ addressKnown address ⌝ }
 {
-    if !has_address(opc, p2) {
-        return true;
-    }
-    let address = pair(f, Lucid::DATA);
     (address == Lucid::CYCLE) | (address == Lucid::FLOOR)
-}
-
-fn in_range(address: u32, value: u32) -> bool
-    ensures { λ r. ⌜ r ≡ inRange address value ⌝ }
-{
-    if address == Lucid::CYCLE {
-        return in_span(value, CYCLE_LEAST, CYCLE_MOST);
-    }
-    in_span(value, 0, FLOOR_MOST)
-}
-
-fn value_right(opc: u8, p2: u8, f: &[u8]) -> bool
-    requires { ⌜ (hasValue opc p2 ≡ true → fieldAt + addressSize + parameterSize ≤ length (now f)) ⌝ }
-    ensures { λ r. ⌜ r ≡ valueRight opc p2 (now (f .entry)) ⌝ }
-{
-    if !has_value(opc, p2) {
-        return true;
-    }
-    in_range(pair(f, Lucid::DATA), value_in(f))
 }
 
 // A parameter's place: channel by channel, 1110h first.
@@ -239,22 +198,30 @@ fn place_of(channel: u8, address: u32) -> u8
     EACH * channel + 1
 }
 
-// What SetParam and GetParam ask, if they passed every test and reset nothing.
-fn ordered_parameter(opc: u8, p1: u8, p2: u8, f: &[u8]) -> Order
-    requires { ⌜ (p1 < channels) × ((fieldAt + addressSize ≤ length (now f)) × ((opc ≡ getParam → ⊥) → fieldAt + addressSize + parameterSize ≤ length (now f))) ⌝ }
-    ensures { λ r. ⌜ r ≡ orderedParameter opc p1 p2 (now (f .entry)) ⌝ }
+// From the address on: SetParam and GetParam that reset nothing.
+fn parameter_asked(opc: u8, p1: u8, p2: u8, f: &[u8]) -> Order
+    requires { ⌜ Addressed opc p1 (now f) ⌝ }
+    ensures { λ r. ⌜ r ≡ parameterAsked opc p1 p2 (now (f .entry)) ⌝ }
 {
-    let place = place_of(p1, pair(f, Lucid::DATA));
+    let address = pair(f, Lucid::DATA);
+    if !address_known(address) {
+        return Order::Refused(RANGE_UNKNOWN, Lucid::INV_PARAM);
+    }
+    let place = place_of(p1, address);
     if opc == Lucid::GET_PARAM {
         return Order::GetParam(place);
     }
-    Order::SetParam(place, is_saved(p2), value_in(f))
+    let value = value_in(f);
+    if !in_range(PARAMETERS + place as usize, value) {
+        return Order::Refused(VALUE_OUTSIDE, Lucid::INV_DATA);
+    }
+    Order::SetParam(place, is_saved(p2), value)
 }
 
-// What a frame that passed every test asks.
-fn ordered(opc: u8, p1: u8, p2: u8, f: &[u8]) -> Order
+// From the command on.
+fn command_asked(opc: u8, p1: u8, p2: u8, f: &[u8]) -> Order
     requires { ⌜ Sized opc p1 p2 (now f) ⌝ }
-    ensures { λ r. ⌜ r ≡ ordered opc p1 p2 (now (f .entry)) ⌝ }
+    ensures { λ r. ⌜ r ≡ commandAsked opc p1 p2 (now (f .entry)) ⌝ }
 {
     if is_get(opc) {
         return Order::GetIo(p2, mask_of(opc, p1));
@@ -265,24 +232,12 @@ fn ordered(opc: u8, p1: u8, p2: u8, f: &[u8]) -> Order
     if is_reset(opc, p2) {
         return Order::Reset(p1, is_saved(p2));
     }
-    ordered_parameter(opc, p1, p2, f)
+    parameter_asked(opc, p1, p2, f)
 }
 
-fn parameter_asked(opc: u8, p1: u8, p2: u8, f: &[u8]) -> Order
-    requires { ⌜ Sized opc p1 p2 (now f) ⌝ }
-    ensures { λ r. ⌜ r ≡ parameterAsked opc p1 p2 (now (f .entry)) ⌝ }
-{
-    if !address_known(opc, p2, f) {
-        return Order::Refused(RANGE_UNKNOWN, Lucid::INV_PARAM);
-    }
-    if !value_right(opc, p2, f) {
-        return Order::Refused(VALUE_OUTSIDE, Lucid::INV_DATA);
-    }
-    ordered(opc, p1, p2, f)
-}
-
+// From type and option on.
 fn option_asked(opc: u8, p1: u8, p2: u8, f: &[u8]) -> Order
-    requires { ⌜ (opcKnown opc ≡ true) × ((channelRight opc p1 ≡ true) × (length (now f) ≡ fieldAt + lenIn (now f))) ⌝ }
+    requires { ⌜ (opcKnown opc ≡ true) × ((channelRight opc p1 ≡ true) × (length (now f) ≡ dataAt + lenIn (now f))) ⌝ }
     ensures { λ r. ⌜ r ≡ optionAsked opc p1 p2 (now (f .entry)) ⌝ }
 {
     if !type_known(opc, p2) {
@@ -297,14 +252,16 @@ fn option_asked(opc: u8, p1: u8, p2: u8, f: &[u8]) -> Order
     if f[Lucid::LEN] != len_for(opc, p1, p2) {
         return Order::Refused(FRAME_FORM, Lucid::INV_LENGTH);
     }
-    parameter_asked(opc, p1, p2, f)
+    command_asked(opc, p1, p2, f)
 }
 
-// What a frame asks, if its length is that of a frame.
+// What a frame asks.
 pub(crate) fn order_of(f: &[u8]) -> Order
-    requires { ⌜ shortest ≤ length (now f) ⌝ }
     ensures { λ r. ⌜ r ≡ asked (now (f .entry)) ⌝ }
 {
+    if !Lucid::fits(f.len()) {
+        return Order::Silent(FRAME_FORM);
+    }
     let opc = f[Lucid::OPC];
     let p1 = f[Lucid::P1];
     if f.len() != Lucid::DATA + f[Lucid::LEN] as usize {

@@ -22,5 +22,6 @@ pub fn lucid(words: &mut [u32], memory: &[u8], pending: &[u8], f: &[u8], out: &m
     if number != ANSWERED {
         return Outcome { number, len: 0 };
     }
-    answer::obey(words, memory, f, out)
+    let order = frame::order_of(f);
+    answer::obey(words, memory, f, order, out)
 }

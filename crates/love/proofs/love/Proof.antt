@@ -1,11 +1,24 @@
 -- `love::love` meets its contract: 12, then 11, then the dialect. Assumes nothing.
+use mathlib.Core.Path.{_≡_, sym, subst}
+use mathlib.Core.Bool.{true}
+use Prim.Native.Nat.{_≤_}
+use native.Mathlib.Omega.{arith}
 use borrow.Author.Needs.{needs}
+use lib.ListN.{length}
 use Rattle.card.specs.Layout.{cardOf}
+use Rattle.card.specs.Fitness.{fit}
+use Rattle.card.specs.Reply.{roomLeast}
 use Rattle.card.proofs.Facts.{fit-facts}
 use Rattle.card.proofs.Replies.{early-none, shell-stopped, shell-passed, gave-words}
+use Rattle.love.specs.Stages.{Sound}
 use Rattle.love.specs.Answer.{loveReply}
+use Rattle.love.proofs.Frames.{asked-sound}
 use Rattle.love.proofs.love.Statement.{statement}
 use Rattle.love.proofs.love.Tie as tie
+
+-- past the shell the card is fit and the buffer long enough
+passed : (c : tie.Else1) → (fit (cardOf (c .before .before .before .before .before .before .before .before .args .words .now) (c .before .before .before .before .before .before .before .before .args .memory .now) (c .before .before .before .before .before .before .before .before .args .pending .now)) ≡ true) × (roomLeast ≤ length (c .before .before .before .before .before .before .before .before .args .out .now))
+passed c = early-none _ _ _ (c .before .stop-early .ensures) (c .if1 .left)
 
 stop-early-requires : tie.Need-stop-early-requires
 stop-early-requires c κs = search needs
@@ -17,12 +30,17 @@ returns : tie.Need-returns
 unfolding loveReply
 returns c = shell-stopped _ _ _ _ (c .before .stop-early .ensures) (c .if1 .taken)
 
+slice-read-order-of : tie.Need-slice-read-order-of
+slice-read-order-of c = omega (arith, fit-facts _ (passed (c .before) .0) .words-length)
+
+order-of-requires : tie.Need-order-of-requires
+order-of-requires c κs = fit-facts _ (passed (c .before) .0) .love-address
+
 obey-requires : tie.Need-obey-requires
 obey-requires c κs =
-    let passed = c .before .before in
-    let p = early-none _ _ _ (passed .before .stop-early .ensures) (passed .if1 .left) in
+    let p = passed (c .before .before .before .before) in
     let f = fit-facts _ (p .0) in
-    ((f .words-length, f .love-address), (f .memory-length, p .1))
+    ((subst Sound (sym (c .before .before .order-of .ensures)) (asked-sound _ _), (f .words-length, f .love-address)), (f .memory-length, p .1))
 
 same-length-2 : tie.Need-same-length-2
 same-length-2 c = search needs
@@ -33,10 +51,21 @@ same-length-3 c = search needs
 returns-2 : tie.Need-returns-2
 unfolding loveReply
 returns-2 c =
-    let passed = c .before .before .before .before .before .before .before in
-    let p = early-none _ _ _ (passed .before .stop-early .ensures) (passed .if1 .left) in
-    let a = passed .before .before .before .before .before .before .before .before .args in
-    shell-passed _ _ _ _ (p .0) (p .1) (gave-words (cardOf (a .words .now) (a .memory .now) (a .pending .now)) _ _ (c .before .before .before .before .obey .ensures))
+    let p = passed (c .before .before .before .before .before .before .before .before .before) in
+    let a = c .before .before .before .before .before .before .before .before .before .before .before .before .before .before .before .before .before .args in
+    rw (← c .before .before .before .before .before .before .before .order-of .ensures)
+    (shell-passed _ _ _ _ (p .0) (p .1) (gave-words (cardOf (a .words .now) (a .memory .now) (a .pending .now)) _ _ (c .before .before .before .before .obey .ensures)))
 
 pub love-spec : {M : Type 1} → statement M
-love-spec = tie.close (tie.spec stop-early-requires same-length returns obey-requires same-length-2 same-length-3 returns-2)
+love-spec =
+    tie.close
+    (tie.spec
+    stop-early-requires
+    same-length
+    returns
+    slice-read-order-of
+    order-of-requires
+    obey-requires
+    same-length-2
+    same-length-3
+    returns-2)

@@ -1,5 +1,5 @@
 -- `datalink::answer::acknowledge` meets its contract. Assumes nothing.
-use Rattle.datalink.proofs.Pendings.{Named, echoable-named, pending-echoable}
+use Rattle.datalink.proofs.Frames.{Named, pending-named}
 use Rattle.datalink.specs.Answer.{acknowledged, applied, appliedTo}
 use Rattle.card.proofs.Replies.{did-silent, did-as, same-card}
 use Rattle.card.specs.Entries.{dropped}
@@ -17,7 +17,7 @@ use Rattle.datalink.proofs.answer.acknowledge.Tie as tie
 
 -- what the pending change names, once it is known that there is one
 named-bytes : (c : tie.Else1) → Named (getD (c .before .before .before .before .before .args .pending .now) kindAt 0) (getD (c .before .before .before .before .before .args .pending .now) numAt 0) (addressOf (getD (c .before .before .before .before .before .args .pending .now) lowAddressAt 0) (getD (c .before .before .before .before .before .args .pending .now) highAddressAt 0))
-named-bytes c = echoable-named _ _ _ (pending-echoable (c .before .before .before .before .before .args .pending .now) (c .before .before .before .before .before .pre .pending-fit) (c .if1 .left))
+named-bytes c = pending-named _ (c .before .before .before .before .before .pre .pending-fit) (c .if1 .left)
 
 slice-read-kind : tie.Need-slice-read-kind
 slice-read-kind c = search needs

@@ -1,19 +1,16 @@
 -- `datalink::answer::obey` meets its contract, order by order. Assumes nothing.
-use Rattle.datalink.proofs.Replies.{gave-refused, gave-interrogated, gave-echoed, gave-acknowledged}
-use Rattle.datalink.proofs.Frames.{order-known}
-use Rattle.datalink.specs.Answer.{iaOf}
-use Rattle.datalink.specs.declared.frame.Order.the-variants.{Interrogate, Change}
+use mathlib.Core.Path.{refl, sym, ap, _∙_, subst}
 use native.Mathlib.Omega.{arith}
-use mathlib.Core.Path.{sym, _∙_}
+use Rattle.card.specs.Layout.{cardOf}
+use Rattle.card.proofs.Replies.{gave-silent, gave-did, same-card}
+use Rattle.datalink.specs.Answer.{obeyed, interrogated, shown, echoed, pended, iaOf}
+use Rattle.datalink.proofs.Frames.{Sound, asked-sound}
 use borrow.Author.Needs.{needs}
 use Rattle.datalink.proofs.answer.obey.Statement.{statement}
 use Rattle.datalink.proofs.answer.obey.Tie as tie
 
 shared-slice-read-ia : tie.Need-shared-slice-read-ia
 shared-slice-read-ia c = search needs
-
-order-of-requires : tie.Need-order-of-requires
-order-of-requires c κs = search needs
 
 enum-known-order : tie.Need-enum-known-order
 enum-known-order c = search needs
@@ -23,20 +20,18 @@ enum-known-order-2 c = search needs
 
 interrogate-requires : tie.Need-interrogate-requires
 interrogate-requires c κs =
-    let s = c .before .before .before .before .before .before .before .before .before .before .before .before in
-    let g = c .before .before .before .order2 .given .0 in
-    let k = order-known (s .args .f .now) _ (Interrogate (g .0) (g .1 .0)) (sym (c .before .before .before .order2 .given .1) ∙ c .before .before .before .before .before .order-of .ensures) in
-    ((s .pre .0 .ia, omega (arith, k .0)), ((k .1 .0, k .1 .1 .0), (k .1 .1 .1, (s .pre .0 .memory-length, s .pre .1))))
+    let s = c .before .before .before .before .before .before .before .before .before .before .before in
+    let k = subst (Sound (s .args .f .now)) (sym (s .pre .1) ∙ c .before .before .before .order2 .given .1) (asked-sound (s .args .f .now) _) in
+    ((s .pre .0 .0 .ia, omega (arith, k .0)), ((k .1 .0, k .1 .1 .0), (k .1 .1 .1, (s .pre .0 .0 .memory-length, s .pre .0 .1))))
 
 enum-known-order-3 : tie.Need-enum-known-order-3
 enum-known-order-3 c = search needs
 
 echo-requires : tie.Need-echo-requires
 echo-requires c κs =
-    let s = c .before .before .before .before .before .before .before .before .before .before .before .before in
-    let g = c .before .before .before .order3 .given .0 in
-    let k = order-known (s .args .f .now) _ (Change (g .0) (g .1 .0)) (sym (c .before .before .before .order3 .given .1) ∙ c .before .before .before .before .before .order-of .ensures) in
-    ((s .pre .0 .ia, k .0), (k .1 .0, (s .pre .0 .pending-length, s .pre .1)))
+    let s = c .before .before .before .before .before .before .before .before .before .before .before in
+    let k = subst (Sound (s .args .f .now)) (sym (s .pre .1) ∙ c .before .before .before .order3 .given .1) (asked-sound (s .args .f .now) _) in
+    ((s .pre .0 .0 .ia, k .0), (k .1 .0, (s .pre .0 .0 .pending-length, s .pre .0 .1)))
 
 enum-told : tie.Need-enum-told
 enum-told c = search needs
@@ -45,8 +40,8 @@ acknowledge-requires : tie.Need-acknowledge-requires
 acknowledge-requires c κs = search needs
 
 returns : tie.Need-returns
-unfolding iaOf
-returns c = gave-refused _ _ _ _ _ (sym (c .before .order .given .1) ∙ c .before .before .before .order-of .ensures)
+unfolding obeyed
+returns c = rw (c .before .order .given .1) (gave-silent _ _ _)
 
 same-length : tie.Need-same-length
 same-length c = search needs
@@ -55,8 +50,10 @@ same-length-2 : tie.Need-same-length-2
 same-length-2 c = search needs
 
 returns-2 : tie.Need-returns-2
-unfolding iaOf
-returns-2 c = gave-interrogated _ _ _ _ _ _ _ _ (sym (c .before .before .before .before .before .before .order2 .given .1) ∙ c .before .before .before .before .before .before .before .before .order-of .ensures) (c .before .before .interrogate .ensures)
+unfolding obeyed interrogated shown iaOf
+returns-2 c =
+    let w = c .before .before .interrogate .ensures in
+    rw (c .before .before .before .before .before .before .order2 .given .1) (record { numbered = refl; measured = w .measured; written = w .written; left = refl })
 
 same-length-3 : tie.Need-same-length-3
 same-length-3 c = search needs
@@ -65,8 +62,10 @@ same-length-4 : tie.Need-same-length-4
 same-length-4 c = search needs
 
 returns-3 : tie.Need-returns-3
-unfolding iaOf
-returns-3 c = gave-echoed _ _ _ _ _ _ _ _ _ (sym (c .before .before .before .before .before .before .before .before .order3 .given .1) ∙ c .before .before .before .before .before .before .before .before .before .before .order-of .ensures) (c .before .before .before .before .echo .ensures)
+unfolding obeyed echoed pended iaOf
+returns-3 c =
+    let w = c .before .before .before .before .echo .ensures in
+    rw (c .before .before .before .before .before .before .before .before .order3 .given .1) (record { numbered = refl; measured = w .0 .measured; written = w .0 .written; left = same-card refl refl (w .1) })
 
 same-length-5 : tie.Need-same-length-5
 same-length-5 c = search needs
@@ -75,15 +74,14 @@ same-length-6 : tie.Need-same-length-6
 same-length-6 c = search needs
 
 returns-4 : tie.Need-returns-4
-unfolding iaOf
-returns-4 c = gave-acknowledged _ _ _ _ _ _ _ (sym (c .before .before .before .before .before .before .before .enum-told .given .1) ∙ c .before .before .before .before .before .before .before .before .before .order-of .ensures) (c .before .before .before .before .acknowledge .ensures)
+unfolding obeyed
+returns-4 c = rw (c .before .before .before .before .before .before .before .enum-told .given .1) (gave-did _ _ (c .before .before .before .before .acknowledge .ensures))
 
 pub obey-spec : {M : Type 1} → statement M
 obey-spec =
     tie.close
     (tie.spec
     shared-slice-read-ia
-    order-of-requires
     enum-known-order
     enum-known-order-2
     interrogate-requires

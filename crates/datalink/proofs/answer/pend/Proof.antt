@@ -1,5 +1,5 @@
 -- `datalink::answer::pend` meets its contract. Assumes nothing.
-use Rattle.datalink.proofs.Pendings.{pend-overlay}
+use Rattle.datalink.proofs.Writes.{pend-overlay}
 use lib.ListN.{length-set}
 use native.Mathlib.Omega.{arith}
 use mathlib.Core.Path.{_∙_}

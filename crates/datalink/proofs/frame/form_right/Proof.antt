@@ -1,22 +1,19 @@
 -- `datalink::frame::form_right` meets its contract, test by test. Assumes nothing.
-use Rattle.wire.proofs.Cases.{yes, no}
-use borrow.Author.Tests.{eq-eqb, ne-eqb}
-use Rattle.datalink.proofs.Frames.{form-short}
-use Rattle.datalink.specs.Frame.{formRight, isAcknowledge, kindIn, numIn}
 use mathlib.Core.Path.{refl, sym, _∙_}
+use borrow.Author.Tests.{eq-eqb, ne-eqb}
+use Rattle.wire.proofs.Cases.{yes, no}
+use Rattle.datalink.specs.Frame.{formRight, isAcknowledge, kindIn, numIn}
+use Rattle.datalink.proofs.Frames.{form-short}
 use borrow.Author.Needs.{needs}
 use Rattle.datalink.proofs.frame.form_right.Statement.{statement}
 use Rattle.datalink.proofs.frame.form_right.Tie as tie
 
-command-in-requires : tie.Need-command-in-requires
-command-in-requires c κs = search needs
-
 returns : tie.Need-returns
 unfolding formRight isAcknowledge
-returns c = yes _ _ _ _ (eq-eqb _ _ (sym (c .before .command-in .ensures) ∙ c .if1 .taken)) refl
+returns c = yes _ _ _ _ (eq-eqb _ _ (sym (c .before .before .pre) ∙ c .if1 .taken)) refl
 
 returns-2 : tie.Need-returns-2
-returns-2 c = form-short _ (λ e. c .before .if1 .left (c .before .before .command-in .ensures ∙ e)) (c .if2 .taken)
+returns-2 c = form-short _ (λ e. c .before .if1 .left (c .before .before .before .pre ∙ e)) (c .if2 .taken)
 
 kind-of-requires : tie.Need-kind-of-requires
 kind-of-requires c κs = search needs
@@ -38,13 +35,12 @@ add-result c = search needs
 
 returns-3 : tie.Need-returns-3
 unfolding formRight isAcknowledge kindIn numIn
-returns-3 c = no _ _ _ _ (ne-eqb _ _ (λ e. c .before .before .before .before .before .if1 .left (c .before .before .before .before .before .before .command-in .ensures ∙ e))) (cc)
+returns-3 c = no _ _ _ _ (ne-eqb _ _ (λ e. c .before .before .before .before .before .if1 .left (c .before .before .before .before .before .before .before .pre ∙ e))) (cc)
 
 pub form-right-spec : {M : Type 1} → statement M
 form-right-spec =
     tie.close
     (tie.spec
-    command-in-requires
     returns
     returns-2
     kind-of-requires

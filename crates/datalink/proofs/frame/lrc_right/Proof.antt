@@ -4,9 +4,6 @@ use borrow.Author.Needs.{needs}
 use Rattle.datalink.proofs.frame.lrc_right.Statement.{statement}
 use Rattle.datalink.proofs.frame.lrc_right.Tie as tie
 
-command-in-requires : tie.Need-command-in-requires
-command-in-requires c κs = search needs
-
 sub-last : tie.Need-sub-last
 sub-last c = search needs
 
@@ -27,13 +24,12 @@ shared-slice-read-result c = search needs
 
 returns : tie.Need-returns
 unfolding lrcRight isAcknowledge
-returns c = rw (← c .before .before .before .command-in .ensures, ← c .before .sum .ensures)
+returns c = rw (← c .before .before .before .before .pre .1, ← c .before .sum .ensures)
 
 pub lrc-right-spec : {M : Type 1} → statement M
 lrc-right-spec =
     tie.close
     (tie.spec
-    command-in-requires
     sub-last
     sub-sum
     part-sum-start

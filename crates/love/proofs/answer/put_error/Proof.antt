@@ -1,11 +1,11 @@
 -- `love::answer::put_error` meets its contract. Assumes nothing.
-use mathlib.Core.Path.{refl}
 use native.Mathlib.Omega.{arith}
 use lib.ListN.{length-set}
 use borrow.Author.Needs.{needs}
 use Rattle.figures.specs.Figure.{pairOf}
-use Rattle.love.specs.Answer.{unitOf, errorReply}
-use Rattle.love.proofs.Answers.{error-stored}
+use Rattle.card.proofs.Replies.{wrote-set, wrote-put}
+use Rattle.love.specs.Form.{ack}
+use Rattle.love.specs.Answer.{unitOf, errorMark, errorReply}
 use Rattle.love.proofs.answer.put_error.Statement.{statement}
 use Rattle.love.proofs.answer.put_error.Tie as tie
 
@@ -41,9 +41,10 @@ unfolding errorReply unitOf pairOf
 returns c =
     let code = c .before .before in
     let unit = code .before .before .before .before in
-    let s = unit .before .before .before in
-    let a = s .args in
-    record { measured = refl; written = rw (code .put-pair .ensures, unit .put-unit .ensures) (error-stored (a .address) (a .out .now) (a .code) (s .pre .1)) }
+    let a = unit .before .before .before .args in
+    let out = a .out .now in
+    rw (code .put-pair .ensures)
+    (wrote-set _ out (wrote-put _ out (wrote-set _ out (unit .put-unit .ensures) errorMark (search needs)) (pairOf (a .code))) ack (search needs))
 
 pub put-error-spec : {M : Type 1} → statement M
 put-error-spec =

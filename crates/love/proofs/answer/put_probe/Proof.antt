@@ -1,7 +1,7 @@
 -- `love::answer::put_probe` meets its contract. Assumes nothing.
 use mathlib.Core.Path.{sym, _∙_}
 use borrow.Author.Needs.{needs}
-use Rattle.love.proofs.Answers.{status-fault, status-temperature}
+use Rattle.love.proofs.Writes.{status-fault, status-temperature}
 use Rattle.love.proofs.answer.put_probe.Statement.{statement}
 use Rattle.love.proofs.answer.put_probe.Tie as tie
 

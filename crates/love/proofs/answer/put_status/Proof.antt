@@ -2,9 +2,11 @@
 use native.Mathlib.Omega.{arith}
 use lib.ListN.{length-set}
 use borrow.Author.Needs.{needs}
-use Rattle.figures.proofs.Decimals.{digits-length}
-use Rattle.love.specs.Answer.{statusField, figureCount}
-use Rattle.love.proofs.Answers.{status-put, wrote-normal}
+use Rattle.figures.specs.Figure.{zeroChar, pairOf}
+use Rattle.figures.specs.Decimal.{digits}
+use Rattle.card.proofs.Replies.{wrote-set, wrote-put}
+use Rattle.love.specs.Answer.{unitOf, statusData, figureCount}
+use Rattle.love.proofs.Writes.{wrote-normal}
 use Rattle.love.proofs.answer.put_status.Statement.{statement}
 use Rattle.love.proofs.answer.put_status.Tie as tie
 
@@ -51,14 +53,17 @@ same-length : tie.Need-same-length
 same-length c = simp (c .before .before .put-end .kept .0, c .before .before .before .before .before .before .put-digits .kept .0, length-set, c .before .before .before .before .before .before .before .before .before .before .put-unit .kept .0)
 
 returns : tie.Need-returns
-unfolding statusField
+unfolding statusData unitOf pairOf digits
 returns c =
     let figures = c .before .before .before .before .before .before in
     let unit = figures .before .before .before .before in
-    let s = unit .before .before .before in
-    let a = s .args in
-    wrote-normal (a .address) (a .out .now) (statusField (a .first) (a .fourth) (a .number)) 12 _ _ _ (omega (arith, digits-length figureCount (a .number)))
-    (rw (figures .put-digits .ensures, unit .put-unit .ensures) (status-put (a .address) (a .out .now) (a .first) (a .fourth) (a .number) (s .pre .1)))
+    let a = unit .before .before .before .args in
+    let out = a .out .now in
+    wrote-normal (a .address) out (statusData (a .first) (a .fourth) (a .number))
+    (rw (figures .put-digits .ensures)
+    (wrote-put _ out
+    (wrote-set _ out (wrote-set _ out (wrote-set _ out (wrote-set _ out (unit .put-unit .ensures) (a .first) (search needs)) zeroChar (search needs)) zeroChar (search needs)) (a .fourth) (search needs))
+    (digits figureCount (a .number))))
     (c .before .before .put-end .ensures)
 
 pub put-status-spec : {M : Type 1} → statement M

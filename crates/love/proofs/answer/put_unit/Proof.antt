@@ -1,8 +1,13 @@
 -- `love::answer::put_unit` meets its contract. Assumes nothing.
+use Prim.Native.Nat.{_%_}
 use native.Mathlib.Omega.{arith}
 use lib.ListN.{length-set}
 use borrow.Author.Needs.{needs}
-use Rattle.love.proofs.Answers.{unit-stored}
+use Rattle.figures.specs.Figure.{pairOf}
+use Rattle.card.specs.Fitness.{loveHundred}
+use Rattle.card.proofs.Replies.{wrote-one, wrote-set, wrote-put}
+use Rattle.love.specs.Form.{stx, filterOf}
+use Rattle.love.specs.Answer.{unitOf}
 use Rattle.love.proofs.answer.put_unit.Statement.{statement}
 use Rattle.love.proofs.answer.put_unit.Tie as tie
 
@@ -25,9 +30,12 @@ same-length : tie.Need-same-length
 same-length c = simp (c .before .before .put-pair .kept .0, length-set)
 
 returns : tie.Need-returns
+unfolding unitOf pairOf
 returns c =
     let a = c .before .before .before .before .before .before .args in
-    rw (c .before .before .put-pair .ensures, c .before .before .before .before .filter .ensures) (unit-stored (a .address) (a .out .now) (search needs))
+    let out = a .out .now in
+    rw (c .before .before .put-pair .ensures, c .before .before .before .before .filter .ensures)
+    (wrote-put _ out (wrote-set _ out (wrote-one stx out (search needs)) (filterOf (a .address)) (search needs)) (pairOf (a .address % loveHundred)))
 
 pub put-unit-spec : {M : Type 1} → statement M
 put-unit-spec =

@@ -1,11 +1,11 @@
 -- `love::answer::put_value` meets its contract. Assumes nothing.
-use native.Mathlib.Omega.{arith}
 use borrow.Author.Needs.{needs}
 use Rattle.figures.specs.Signed.{magnitude}
 use Rattle.figures.specs.Figure.{pairOf}
-use Rattle.figures.proofs.Decimals.{digits-length}
-use Rattle.love.specs.Answer.{signOf, valueField, figureCount}
-use Rattle.love.proofs.Answers.{value-put, wrote-normal}
+use Rattle.figures.specs.Decimal.{digits}
+use Rattle.card.proofs.Replies.{wrote-put}
+use Rattle.love.specs.Answer.{unitOf, signOf, valueData, figureCount}
+use Rattle.love.proofs.Writes.{wrote-normal}
 use Rattle.love.proofs.answer.put_value.Statement.{statement}
 use Rattle.love.proofs.answer.put_value.Tie as tie
 
@@ -18,8 +18,8 @@ sign-of-requires c κs = search needs
 put-pair-requires : tie.Need-put-pair-requires
 put-pair-requires c κs = search needs
 
-add-put-digits : tie.Need-add-put-digits
-add-put-digits c = search needs
+add-at : tie.Need-add-at
+add-at c = search needs
 
 magnitude-requires : tie.Need-magnitude-requires
 magnitude-requires c κs = search needs
@@ -30,9 +30,6 @@ put-digits-requires c κs = search needs
 add-put-end : tie.Need-add-put-end
 add-put-end c = search needs
 
-add-put-end-2 : tie.Need-add-put-end-2
-add-put-end-2 c = search needs
-
 put-end-requires : tie.Need-put-end-requires
 put-end-requires c κs = search needs
 
@@ -40,16 +37,15 @@ same-length : tie.Need-same-length
 same-length c = search needs
 
 returns : tie.Need-returns
-unfolding valueField pairOf
+unfolding valueData unitOf pairOf digits
 returns c =
     let figures = c .before .before .before .before .before .before in
     let sign = figures .before .before .before .before .before in
     let unit = sign .before .before .before .before .before in
     let a = unit .before .before .before .args in
-    let m = magnitude (a .word) in
-    wrote-normal (a .address) (a .out .now) (valueField (a .word)) 10 _ _ _ (omega (arith, digits-length figureCount m))
-    (rw (figures .put-digits .ensures, figures .before .magnitude .ensures, sign .put-pair .ensures, sign .before .sign-of .ensures, unit .put-unit .ensures)
-    (value-put (a .address) (a .out .now) (signOf (a .word)) m))
+    wrote-normal (a .address) (a .out .now) (valueData (a .word))
+    (rw (figures .put-digits .ensures, figures .before .magnitude .ensures, sign .put-pair .ensures, sign .before .sign-of .ensures)
+    (wrote-put _ _ (wrote-put _ _ (unit .put-unit .ensures) (pairOf (signOf (a .word)))) (digits figureCount (magnitude (a .word)))))
     (c .before .before .put-end .ensures)
 
 pub put-value-spec : {M : Type 1} → statement M
@@ -59,11 +55,10 @@ put-value-spec =
     put-unit-requires
     sign-of-requires
     put-pair-requires
-    add-put-digits
+    add-at
     magnitude-requires
     put-digits-requires
     add-put-end
-    add-put-end-2
     put-end-requires
     same-length
     returns)

@@ -1,9 +1,9 @@
 -- `love::answer::put_written` meets its contract. Assumes nothing.
-use mathlib.Core.Path.{refl}
 use borrow.Author.Needs.{needs}
 use Rattle.figures.specs.Figure.{pairOf}
-use Rattle.love.specs.Answer.{writtenField}
-use Rattle.love.proofs.Answers.{field-put, wrote-normal}
+use Rattle.card.proofs.Replies.{wrote-put}
+use Rattle.love.specs.Answer.{unitOf, writtenData}
+use Rattle.love.proofs.Writes.{wrote-normal}
 use Rattle.love.proofs.answer.put_written.Statement.{statement}
 use Rattle.love.proofs.answer.put_written.Tie as tie
 
@@ -23,14 +23,12 @@ same-length : tie.Need-same-length
 same-length c = search needs
 
 returns : tie.Need-returns
-unfolding writtenField pairOf
+unfolding writtenData unitOf pairOf
 returns c =
     let sign = c .before .before .before .before .before .before in
     let unit = sign .before .before .before .before in
     let a = unit .before .before .before .args in
-    wrote-normal (a .address) (a .out .now) writtenField 6 _ _ _ refl
-    (rw (sign .put-pair .ensures, unit .put-unit .ensures) (field-put (a .address) (a .out .now) writtenField))
-    (c .before .before .put-end .ensures)
+    wrote-normal (a .address) (a .out .now) writtenData (rw (sign .put-pair .ensures) (wrote-put _ _ (unit .put-unit .ensures) writtenData)) (c .before .before .put-end .ensures)
 
 pub put-written-spec : {M : Type 1} → statement M
 put-written-spec =

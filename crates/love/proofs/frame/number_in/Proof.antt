@@ -6,7 +6,8 @@ use borrow.Author.Needs.{needs}
 use Rattle.wire.specs.Buffer.{part}
 use Rattle.wire.proofs.Buffers.{length-part}
 use Rattle.figures.proofs.Decimals.{value-below}
-use Rattle.love.specs.Frame.{numberIn, valueAt, signAt}
+use Rattle.love.specs.Form.{valueAt, signAt}
+use Rattle.love.specs.Frame.{numberIn}
 use Rattle.love.proofs.frame.number_in.Statement.{statement}
 use Rattle.love.proofs.frame.number_in.Tie as tie
 
@@ -24,9 +25,9 @@ value-requires c κs = search needs
 
 cast-with-sign : tie.Need-cast-with-sign
 cast-with-sign c =
-    let field = c .before .before .before .args .field .now in
-    let e : length (part field valueAt signAt) ≡ 4 = length-part field valueAt signAt (omega arith) (omega arith) in
-    omega (arith, c .value .ensures, rw e at (value-below (part field valueAt signAt) (c .before .before .before .pre .1)))
+    let characters = c .before .before .before .args .characters .now in
+    let e : length (part characters valueAt signAt) ≡ 4 = length-part characters valueAt signAt (omega arith) (omega arith) in
+    omega (arith, c .value .ensures, rw e at (value-below (part characters valueAt signAt) (c .before .before .before .pre .1)))
 
 with-sign-requires : tie.Need-with-sign-requires
 with-sign-requires c κs = search needs

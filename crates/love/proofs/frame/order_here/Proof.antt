@@ -22,14 +22,14 @@ returns-2 c = search cases
 sub-end : tie.Need-sub-end
 sub-end c = search needs
 
-sub-field : tie.Need-sub-field
-sub-field c = search needs
+sub-characters : tie.Need-sub-characters
+sub-characters c = search needs
 
-part-field-start : tie.Need-part-field-start
-part-field-start c = search needs
+part-characters-start : tie.Need-part-characters-start
+part-characters-start c = search needs
 
-part-field-end : tie.Need-part-field-end
-part-field-end c = search needs
+part-characters-end : tie.Need-part-characters-end
+part-characters-end c = search needs
 
 all-figures-requires : tie.Need-all-figures-requires
 all-figures-requires c κs = search needs
@@ -54,9 +54,9 @@ order-here-spec =
     checksum-right-requires
     returns-2
     sub-end
-    sub-field
-    part-field-start
-    part-field-end
+    sub-characters
+    part-characters-start
+    part-characters-end
     all-figures-requires
     returns-3
     order-in-requires

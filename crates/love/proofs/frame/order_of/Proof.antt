@@ -9,11 +9,12 @@ use borrow.Author.Tests.{eq-eqb, ne-eqb}
 use borrow.Author.Needs.{needs}
 use Rattle.wire.specs.Buffer.{part}
 use Rattle.wire.proofs.Cases.{cases, told-yes}
+use Rattle.wire.proofs.Lengths.{between-facts}
 use Rattle.figures.specs.Figure.{upperHex, noByte, allFigures}
-use Rattle.love.specs.Form.{shortest, addressAt, fieldAt}
+use Rattle.love.specs.Form.{shortest, longest, addressAt, dataAt}
 use Rattle.love.specs.Frame.{asked}
 use Rattle.love.specs.Stages.{orderWrite, orderBy, orderIn, orderHere}
-use Rattle.love.proofs.Frames.{length-least, address-figures}
+use Rattle.love.proofs.Frames.{address-figures}
 use Rattle.love.proofs.frame.order_of.Statement.{statement}
 use Rattle.love.proofs.frame.order_of.Tie as tie
 
@@ -22,7 +23,7 @@ fits-requires c κs = search needs
 
 -- a frame of a right length has room for everything but data
 long : (c : tie.Else1) → shortest ≤ length (c .before .before .before .args .f .now)
-long c = length-least _ (told-yes (c .before .fits2 .ensures) (c .if1 .left))
+long c = between-facts shortest longest _ (told-yes (c .before .fits2 .ensures) (c .if1 .left)) .0
 
 returns : tie.Need-returns
 unfolding asked
@@ -49,13 +50,13 @@ byte-at-requires : tie.Need-byte-at-requires
 byte-at-requires c κs = omega (arith, long (c .before .before .before .before))
 
 -- the address figures are right exactly if they were read as a byte
-figures : (c : tie.After-byte-at) → allFigures upperHex (part (c .before .before .before .before .before .before .before .before .args .f .now) addressAt fieldAt) ≡ not (eqb (c .byte-at .result) noByte)
+figures : (c : tie.After-byte-at) → allFigures upperHex (part (c .before .before .before .before .before .before .before .before .args .f .now) addressAt dataAt) ≡ not (eqb (c .byte-at .result) noByte)
 figures c = rw (c .byte-at .ensures) (address-figures (c .before .before .before .before .before .before .before .before .args .f .now) (long (c .before .before .before .before .before)))
 
 returns-4 : tie.Need-returns-4
 unfolding asked
 returns-4 c =
-    let wrong : allFigures upperHex (part (c .before .before .before .before .before .before .before .before .before .args .f .now) addressAt fieldAt) ≡ false = figures (c .before) ∙ ap not (eq-eqb _ _ (c .if4 .taken)) in
+    let wrong : allFigures upperHex (part (c .before .before .before .before .before .before .before .before .before .args .f .now) addressAt dataAt) ≡ false = figures (c .before) ∙ ap not (eq-eqb _ _ (c .if4 .taken)) in
     search (cases, wrong)
 
 order-here-requires : tie.Need-order-here-requires
@@ -64,7 +65,7 @@ order-here-requires c κs = ((c .before .before .before .before .before .before 
 returns-5 : tie.Need-returns-5
 unfolding asked orderHere orderIn orderBy orderWrite
 returns-5 c =
-    let right : allFigures upperHex (part (c .before .before .before .before .before .before .before .before .before .before .args .f .now) addressAt fieldAt) ≡ true = figures (c .before .before) ∙ ap not (ne-eqb _ _ (c .before .if4 .left)) in
+    let right : allFigures upperHex (part (c .before .before .before .before .before .before .before .before .before .before .args .f .now) addressAt dataAt) ≡ true = figures (c .before .before) ∙ ap not (ne-eqb _ _ (c .before .if4 .left)) in
     search (cases, right)
 
 pub order-of-spec : {M : Type 1} → statement M

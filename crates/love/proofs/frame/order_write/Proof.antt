@@ -33,10 +33,13 @@ unfolding orderWrite signRight
 returns-2 c = rw (← c .before .before .byte-at .ensures) (search cases)
 
 number-in-requires : tie.Need-number-in-requires
-number-in-requires c κs = ((c .before .before .before .before .before .before .before .pre, c .before .before .byte-at .ensures), told-yes (c .before .before .before .before .all-figures .ensures) (c .before .before .before .if1 .left))
+number-in-requires c κs = ((c .before .before .before .before .before .before .before .pre .1, c .before .before .byte-at .ensures), told-yes (c .before .before .before .before .all-figures .ensures) (c .before .before .before .if1 .left))
 
-in-span-requires : tie.Need-in-span-requires
-in-span-requires c κs = search needs
+add-in-range : tie.Need-add-in-range
+add-in-range c = search needs
+
+in-range-requires : tie.Need-in-range-requires
+in-range-requires c κs = search needs
 
 returns-3 : tie.Need-returns-3
 unfolding orderWrite signRight
@@ -59,6 +62,7 @@ order-write-spec =
     sign-right-requires
     returns-2
     number-in-requires
-    in-span-requires
+    add-in-range
+    in-range-requires
     returns-3
     returns-4)

@@ -1,6 +1,6 @@
 -- `lucid::answer::put_temperature` meets its contract, type by type. Assumes nothing.
 use Rattle.lucid.specs.declared.answer.Hundredths.{Hundredths}
-use Rattle.lucid.proofs.Bytes.{grew-as}
+use Rattle.lucid.proofs.Writes.{grew-as}
 use Rattle.lucid.specs.Form.{little}
 use Rattle.lucid.specs.Answer.{temperatureIn}
 use Rattle.wire.proofs.Cases.{yes, no}

@@ -1,7 +1,6 @@
 -- `lucid::answer::read_channels` meets its contract. The invariant: the values held and those of the channels still to come are those of the whole group. Assumes nothing.
-use Rattle.lucid.proofs.Replies.{told-as, told-on}
-use Rattle.lucid.proofs.Groups.{joined-none, group-grew, group-passed, group-failed, group-done, value-demand, value-probe, value-fault, length-temperature}
-use Rattle.lucid.proofs.Bytes.{length-little}
+use Rattle.card.proofs.Replies.{told-as}
+use Rattle.lucid.proofs.Writes.{length-little, joined-none, group-grew, group-passed, group-failed, group-done, value-demand, value-probe, value-fault, length-temperature}
 use mathlib.Core.Logic.{⊎-elim}
 use Rattle.lucid.proofs.Channels.{channelsLeft}
 use Rattle.lucid.specs.Answer.{Held, joined, group, valueOf, read}
@@ -15,15 +14,15 @@ use Rattle.lucid.proofs.answer.read_channels.Statement.{statement}
 use Rattle.lucid.proofs.answer.read_channels.Tie as tie
 
 abbrev Inv-loop : tie.InvT-loop
-Inv-loop words memory kind mask out₀ values₀ len₀ left₀ channel₀ out values len left channel =
+Inv-loop words memory valueType mask out₀ values₀ len₀ left₀ channel₀ out values len left channel =
     (channel ≤ 4)
     × ((out ≡ out₀)
     × ((length values ≡ 16)
     × ((len ≤ 4 * channel)
-    × (joined (Held (take len values)) (group (valueOf words memory kind) (channelsLeft channel left)) ≡ group (valueOf words memory kind) (channelsOf mask)))))
+    × (joined (Held (take len values)) (group (valueOf words memory valueType) (channelsLeft channel left)) ≡ group (valueOf words memory valueType) (channelsOf mask)))))
 
 abbrev μ-loop : tie.MeasureT-loop
-μ-loop words memory kind mask out₀ values₀ len₀ left₀ channel₀ out values len left channel = 4 - channel
+μ-loop words memory valueType mask out₀ values₀ len₀ left₀ channel₀ out values len left channel = 4 - channel
 
 loop-holds : tie.Need-loop-holds Inv-loop μ-loop
 loop-holds c = (search needs, (refl, (refl, (search needs, joined-none _))))
@@ -71,9 +70,9 @@ returns : tie.Need-returns Inv-loop μ-loop
 unfolding read
 returns c = let l = c .before .before .before .before .before .before .before .before .before .before .before .before .loop in
     let a = c .before .before .before .before .before .before .before .before .before .before .before .before .before .before .before .before .args in
-    let fault = value-fault (a .words .now) (a .memory .now) (a .kind) (l .channel) (c .before .before .before .before .before .before .before .before .before .if2 .left) (sym (c .before .before .before .before .before .before .before .read-code .ensures) ∙ c .before .before .before .before .before .enum-told .given .1) in
+    let fault = value-fault (a .words .now) (a .memory .now) (a .value-type) (l .channel) (c .before .before .before .before .before .before .before .before .before .if2 .left) (sym (c .before .before .before .before .before .before .before .read-code .ensures) ∙ c .before .before .before .before .before .enum-told .given .1) in
     let none = sym (l .inv .1 .1 .1 .1) ∙ group-failed _ (l .channel) (l .left) (c .before .before .before .before .before .before .before .before .before .before .before .loop-test .taken) _ (c .before .before .before .before .before .before .before .before .before .before .if1 .taken) fault in
-    told-as _ _ (ap read (sym none)) (told-on _ _ (l .inv .1 .0) (c .before .before .respond .ensures))
+    told-as _ _ (ap read (sym none)) (rw (← l .inv .1 .0) (c .before .before .respond .ensures))
 
 slice-aggregate-put-temperature : tie.Need-slice-aggregate-put-temperature Inv-loop μ-loop
 slice-aggregate-put-temperature c = sym (c .before .before .before .before .before .before .before .before .before .loop .inv .1 .1 .0)
@@ -91,18 +90,18 @@ loop-again : tie.Need-loop-again Inv-loop μ-loop
 loop-again c = let l = c .before .before .loop in
     let a = c .before .before .before .before .before .before .args in
     let h = c .before .loop-test .taken in
-    let value = valueOf (a .words .now) (a .memory .now) (a .kind) in
+    let value = valueOf (a .words .now) (a .memory .now) (a .value-type) in
     ⊎-elim
     (λ w.
     let g = w .4 .ensures in
-    let e = value-demand (a .words .now) (a .memory .now) (a .kind) (l .channel) (w .1 .taken) in
+    let e = value-demand (a .words .now) (a .memory .now) (a .value-type) (l .channel) (w .1 .taken) in
     (omega arith, (l .inv .1 .0, (rw (w .6) (w .4 .kept .1 .1 .0 ∙ l .inv .1 .1 .0), (omega (arith, w .7, simp length-little at (g .counted)), rw (w .6, w .7) (group-grew value (l .channel) (l .left) h _ (l .values) _ _ (l .len) _ refl (w .0 .taken) e g ∙ l .inv .1 .1 .1 .1))))))
     (⊎-elim
     (λ w.
     let g = w .8 .ensures in
     let t = w .5 .given .0 .0 in
-    let e = value-probe (a .words .now) (a .memory .now) (a .kind) (l .channel) t (w .1 .left) (sym (w .3 .ensures) ∙ w .5 .given .1) in
-    (omega arith, (l .inv .1 .0, (rw (w .10) (w .8 .kept .1 .1 .0 ∙ l .inv .1 .1 .0), (omega (arith, w .11, g .counted, length-temperature (a .kind) t), rw (w .10, w .11) (group-grew value (l .channel) (l .left) h _ (l .values) _ _ (l .len) _ refl (w .0 .taken) e g ∙ l .inv .1 .1 .1 .1))))))
+    let e = value-probe (a .words .now) (a .memory .now) (a .value-type) (l .channel) t (w .1 .left) (sym (w .3 .ensures) ∙ w .5 .given .1) in
+    (omega arith, (l .inv .1 .0, (rw (w .10) (w .8 .kept .1 .1 .0 ∙ l .inv .1 .1 .0), (omega (arith, w .11, g .counted, length-temperature (a .value-type) t), rw (w .10, w .11) (group-grew value (l .channel) (l .left) h _ (l .values) _ _ (l .len) _ refl (w .0 .taken) e g ∙ l .inv .1 .1 .1 .1))))))
     (λ w. (omega arith, (l .inv .1 .0, (rw (w .1) (l .inv .1 .1 .0), (omega (arith, w .2), rw (w .1, w .2) (group-passed value (l .channel) (l .left) h _ (w .0 .left) ∙ l .inv .1 .1 .1 .1)))))))
     (c .if1 .came)
 
@@ -119,7 +118,7 @@ returns-2 : tie.Need-returns-2 Inv-loop μ-loop
 unfolding read
 returns-2 c = let l = c .before .before .before .before .before .before .loop in
     let whole = sym (l .inv .1 .1 .1 .1) ∙ group-done _ (l .channel) (l .left) _ (c .before .before .before .before .before .loop-test .left) in
-    told-as _ _ (ap read (sym whole)) (told-on _ _ (l .inv .1 .0) (c .before .before .respond2 .ensures))
+    told-as _ _ (ap read (sym whole)) (rw (← l .inv .1 .0) (c .before .before .respond2 .ensures))
 
 pub read-channels-spec : {M : Type 1} → statement M
 read-channels-spec =

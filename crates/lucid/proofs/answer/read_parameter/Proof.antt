@@ -1,6 +1,6 @@
 -- `lucid::answer::read_parameter` meets its contract. Assumes nothing.
-use Rattle.lucid.proofs.Replies.{told-as}
-use Rattle.lucid.proofs.Bytes.{length-little}
+use Rattle.card.proofs.Replies.{told-as}
+use Rattle.lucid.proofs.Writes.{length-little}
 use Rattle.lucid.specs.Answer.{told}
 use mathlib.Core.Path.{ap}
 use native.Mathlib.Omega.{arith}

@@ -1,11 +1,8 @@
 -- `lucid::answer::respond` meets its contract: the head is stored, the data copied after it. Assumes nothing.
-use Rattle.lucid.proofs.Bytes.{overlay-head}
-use Rattle.wire.specs.Buffer.{overlay}
+use Rattle.lucid.proofs.Writes.{wrote-told}
 use lib.Seq.{length-take-le}
 use lib.ListN.{take, length-set, length-take}
-use mathlib.Core.List.{_∷_}
-use mathlib.Core.Path.{refl, sym, ap, _∙_}
-use Prim.Native.Nat.{ℕ}
+use mathlib.Core.Path.{sym}
 use native.Mathlib.Omega.{arith}
 use borrow.Author.Needs.{needs}
 use Rattle.lucid.proofs.answer.respond.Statement.{statement}
@@ -34,14 +31,7 @@ same-length c = simp length-set at (c .before .before .copy .kept .1 .0)
 
 returns : tie.Need-returns
 returns c = let a = c .before .before .before .before .before .before .before .args in
-    let e = length-take-le (a .len) (a .values .now) (search needs) in
-    record {
-      numbered = refl;
-      wrote = record {
-        measured = omega (arith, e);
-        written = c .before .before .copy .ensures ∙ overlay-head (a .status) (a .len) (take (a .len) (a .values .now)) (a .out .now) (search needs) ∙ ap (λ (n : ℕ). overlay (a .status ∷ n ∷ take (a .len) (a .values .now)) (a .out .now)) (sym e);
-      };
-    }
+    rw (c .before .before .copy .ensures) (wrote-told (a .number) (a .status) (take (a .len) (a .values .now)) (a .out .now) (a .len) (search needs) (sym (length-take-le (a .len) (a .values .now) (search needs))))
 
 pub respond-spec : {M : Type 1} → statement M
 respond-spec =

@@ -40,8 +40,8 @@ returns-4 : tie.Need-returns-4
 unfolding optionAsked
 returns-4 c = let wrong = ne-eqb (lenIn (c .before .before .before .before .before .before .before .before .before .before .args .f .now)) _ (λ e. c .if4 .taken (e ∙ sym (c .before .len-for .ensures))) in search (yes, no, told-yes, told-no) depth 12
 
-parameter-asked-requires : tie.Need-parameter-asked-requires
-parameter-asked-requires c κs = let s = c .before .before .before .before .before .before .before .before .before .before .pre in
+command-asked-requires : tie.Need-command-asked-requires
+command-asked-requires c κs = let s = c .before .before .before .before .before .before .before .before .before .before .pre in
     record { known = s .0; channel = s .1 .0; measured = s .1 .1 ∙ ap (λ (n : ℕ). 4 + n) (c .if4 .left ∙ c .before .len-for .ensures) }
 
 returns-5 : tie.Need-returns-5
@@ -61,5 +61,5 @@ option-asked-spec =
     shared-slice-read-if4
     len-for-requires
     returns-4
-    parameter-asked-requires
+    command-asked-requires
     returns-5)

@@ -1,39 +1,64 @@
 -- `lucid::frame::parameter_asked` meets its contract, test by test. Assumes nothing.
-use Rattle.lucid.proofs.Lengths.{address-within, value-within}
+use borrow.Author.Tests.{eq-eqb, ne-eqb}
 use Rattle.lucid.specs.Stages.{parameterAsked}
 use Rattle.wire.proofs.Cases.{yes, no, told-yes, told-no}
 use borrow.Author.Needs.{needs}
 use Rattle.lucid.proofs.frame.parameter_asked.Statement.{statement}
 use Rattle.lucid.proofs.frame.parameter_asked.Tie as tie
 
+pair-requires : tie.Need-pair-requires
+pair-requires c κs = search needs
+
 address-known-requires : tie.Need-address-known-requires
-address-known-requires c κs = address-within _ (c .before .args .p1) _ _ (c .before .pre)
+address-known-requires c κs = search needs
 
 returns : tie.Need-returns
 unfolding parameterAsked
-returns c = search (yes, no, told-yes, told-no) depth 12
+returns c = rw (← c .before .before .pair .ensures .0) (search (yes, no, told-yes, told-no, eq-eqb, ne-eqb) depth 12)
 
-value-right-requires : tie.Need-value-right-requires
-value-right-requires c κs = value-within _ (c .before .before .before .args .p1) _ _ (c .before .before .before .pre)
+place-of-requires : tie.Need-place-of-requires
+place-of-requires c κs = search needs
 
 returns-2 : tie.Need-returns-2
 unfolding parameterAsked
-returns-2 c = search (yes, no, told-yes, told-no) depth 12
+returns-2 c = rw (← c .before .before .before .before .pair .ensures .0, ← c .before .place-of .ensures) (search (yes, no, told-yes, told-no, eq-eqb, ne-eqb) depth 12)
 
-ordered-requires : tie.Need-ordered-requires
-ordered-requires c κs = search needs
+value-in-requires : tie.Need-value-in-requires
+value-in-requires c κs = c .before .before .before .before .before .before .pre .value (c .if2 .left)
+
+cast-in-range : tie.Need-cast-in-range
+cast-in-range c = search needs
+
+add-in-range : tie.Need-add-in-range
+add-in-range c = search needs
+
+in-range-requires : tie.Need-in-range-requires
+in-range-requires c κs = search needs
 
 returns-3 : tie.Need-returns-3
 unfolding parameterAsked
-returns-3 c = search (yes, no, told-yes, told-no) depth 12
+returns-3 c = rw (← c .before .before .before .before .before .before .before .pair .ensures .0, ← c .before .before .before .before .place-of .ensures, ← c .before .before .value-in .ensures) (search (yes, no, told-yes, told-no, eq-eqb, ne-eqb) depth 12)
+
+is-saved-requires : tie.Need-is-saved-requires
+is-saved-requires c κs = search needs
+
+returns-4 : tie.Need-returns-4
+unfolding parameterAsked
+returns-4 c = rw (← c .before .before .before .before .before .before .before .before .pair .ensures .0, ← c .before .before .before .before .before .place-of .ensures, ← c .before .before .before .value-in .ensures, ← c .is-saved .ensures) (search (yes, no, told-yes, told-no, eq-eqb, ne-eqb) depth 12)
 
 pub parameter-asked-spec : {M : Type 1} → statement M
 parameter-asked-spec =
     tie.close
     (tie.spec
+    pair-requires
     address-known-requires
     returns
-    value-right-requires
+    place-of-requires
     returns-2
-    ordered-requires
-    returns-3)
+    value-in-requires
+    cast-in-range
+    add-in-range
+    in-range-requires
+    returns-3
+    is-saved-requires
+    returns-4)

@@ -1,12 +1,12 @@
--- `lucid::frame::ordered` meets its contract, test by test. Assumes nothing.
+-- `lucid::frame::command_asked` meets its contract, command by command. Assumes nothing.
 use mathlib.Core.Path.{ap, _∙_}
+use Rattle.lucid.specs.Stages.{commandAsked}
 use Rattle.lucid.specs.declared.frame.Order.the-variants.{SetIo, Reset}
-use Rattle.lucid.proofs.Lengths.{parameter-within}
-use Rattle.lucid.specs.Frame.{ordered}
+use Rattle.lucid.proofs.Frames.{addressed}
 use Rattle.wire.proofs.Cases.{yes, no, told-true, told-false}
 use borrow.Author.Needs.{needs}
-use Rattle.lucid.proofs.frame.ordered.Statement.{statement}
-use Rattle.lucid.proofs.frame.ordered.Tie as tie
+use Rattle.lucid.proofs.frame.command_asked.Statement.{statement}
+use Rattle.lucid.proofs.frame.command_asked.Tie as tie
 
 is-get-requires : tie.Need-is-get-requires
 is-get-requires c κs = search needs
@@ -15,7 +15,7 @@ mask-of-requires : tie.Need-mask-of-requires
 mask-of-requires c κs = search needs
 
 returns : tie.Need-returns
-unfolding ordered
+unfolding commandAsked
 returns c = search (yes, no, told-true, told-false) depth 12
 
 is-set-requires : tie.Need-is-set-requires
@@ -25,7 +25,7 @@ mask-of-requires-2 : tie.Need-mask-of-requires-2
 mask-of-requires-2 c κs = search needs
 
 returns-2 : tie.Need-returns-2
-unfolding ordered
+unfolding commandAsked
 returns-2 c = ap SetIo (c .mask-of2 .ensures) ∙ search (yes, no, told-true, told-false) depth 12
 
 is-reset-requires : tie.Need-is-reset-requires
@@ -35,18 +35,19 @@ is-saved-requires : tie.Need-is-saved-requires
 is-saved-requires c κs = search needs
 
 returns-3 : tie.Need-returns-3
-unfolding ordered
+unfolding commandAsked
 returns-3 c = ap (Reset (c .before .before .before .before .before .before .before .before .args .p1)) (c .is-saved .ensures) ∙ search (yes, no, told-true, told-false) depth 12
 
-ordered-parameter-requires : tie.Need-ordered-parameter-requires
-ordered-parameter-requires c κs = parameter-within _ _ _ _ (c .before .before .before .before .before .before .before .pre) (told-false (c .before .before .before .before .before .is-get .ensures) (c .before .before .before .before .if1 .left)) (told-false (c .before .before .before .is-set .ensures) (c .before .before .if2 .left)) (told-false (c .before .is-reset .ensures) (c .if3 .left))
+parameter-asked-requires : tie.Need-parameter-asked-requires
+parameter-asked-requires c κs = let tested = c .before .before in
+    addressed _ _ _ _ (tested .before .before .before .before .before .pre) (told-false (tested .before .before .before .is-get .ensures) (tested .before .before .if1 .left)) (told-false (tested .before .is-set .ensures) (tested .if2 .left)) (told-false (c .before .is-reset .ensures) (c .if3 .left))
 
 returns-4 : tie.Need-returns-4
-unfolding ordered
+unfolding commandAsked
 returns-4 c = search (yes, no, told-true, told-false) depth 12
 
-pub ordered-spec : {M : Type 1} → statement M
-ordered-spec =
+pub command-asked-spec : {M : Type 1} → statement M
+command-asked-spec =
     tie.close
     (tie.spec
     is-get-requires
@@ -58,5 +59,5 @@ ordered-spec =
     is-reset-requires
     is-saved-requires
     returns-3
-    ordered-parameter-requires
+    parameter-asked-requires
     returns-4)

@@ -5,22 +5,22 @@ use mathlib.Core.List.{List, _∷_}
 use Prim.Native.Nat.{ℕ, zero, suc, _+_, _-_, _≤_, _<_}
 use native.Mathlib.Omega.{arith}
 use lib.Dec.{eqb}
-use lib.ListN.{length, getD, drop, length-set, List·getD-append}
-use lib.Seq.{getD-drop, getD-take}
-use Rattle.wire.proofs.Tests.{or-true-right}
+use lib.ListN.{length, getD, length-set, List·getD-append}
 use Rattle.wire.specs.Buffer.{overlay}
+use Rattle.wire.proofs.Tests.{or-true-right}
 use Rattle.wire.proofs.Cases.{by-choice}
-use Rattle.wire.proofs.Buffers.{length-overlay, length-part}
+use Rattle.wire.proofs.Buffers.{length-overlay, length-part, getD-part}
 use Rattle.card.specs.Layout.{Card, kindAt}
 use Rattle.card.specs.Change.{noChange, named, echoable, fitPending}
 use Rattle.card.specs.Fitness.{fit}
 use Rattle.card.specs.Reply.{roomLeast}
 use Rattle.card.proofs.Facts.{fit-from, fit-facts}
 use Rattle.card.proofs.Fits.{IsFit, shell-fit, dropped-fit, length-dropped}
-use Rattle.datalink.specs.Frame.{numPlace, dataPlace, numIn, addressIn, asked}
+use Rattle.datalink.specs.Form.{frameNumAt, frameDataAt}
+use Rattle.datalink.specs.Frame.{numIn, addressIn, asked}
 use Rattle.datalink.specs.Answer.{iaOf, interrogated, bodyOf, pended, echoed, changed, appliedTo, applied, acknowledged, obeyed, datalinkReply}
 use Rattle.datalink.specs.declared.frame.Order.{Order}
-use Rattle.datalink.specs.declared.frame.Order.the-variants.{Refused, Interrogate, Change, Acknowledge}
+use Rattle.datalink.specs.declared.frame.Order.the-variants.{Silent, Interrogate, Change, Acknowledge}
 use Rattle.datalink.proofs.Frames.{Sound, asked-sound}
 
 -- a change keeps the length of memory
@@ -30,18 +30,16 @@ length-changed kind a sent zero memory = refl
 length-changed kind a sent (suc k) memory = rw length-set (length-changed kind a sent k memory)
 
 -- what an echoed change leaves as the pending one
-module _ (f : List ℕ) (kind num : ℕ) (p : List ℕ) (long : dataPlace + num ≤ length f) where
-  length-body : length (bodyOf f num) ≡ dataPlace + num - numPlace
+module _ (f : List ℕ) (kind num : ℕ) (p : List ℕ) (long : frameDataAt + num ≤ length f) where
+  length-body : length (bodyOf f num) ≡ frameDataAt + num - frameNumAt
   unfolding bodyOf
-  length-body = length-part f numPlace (dataPlace + num) (omega arith) long
+  length-body = length-part f frameNumAt (frameDataAt + num) (omega arith) long
 
   -- a byte after the kind is one of the frame's, as received
-  pended-at : (i : ℕ) → numPlace + i < dataPlace → getD (overlay (kind ∷ bodyOf f num) p) (suc i) 0 ≡ getD f (numPlace + i) 0
+  pended-at : (i : ℕ) → frameNumAt + i < frameDataAt → getD (overlay (kind ∷ bodyOf f num) p) (suc i) 0 ≡ getD f (frameNumAt + i) 0
   unfolding overlay bodyOf
   pended-at i h =
-      List·getD-append (bodyOf f num) _ 0 i (omega (arith, length-body))
-      ∙ getD-take (dataPlace + num - numPlace) (drop numPlace f) i 0 (omega arith)
-      ∙ getD-drop numPlace f i 0
+      List·getD-append (bodyOf f num) _ 0 i (omega (arith, length-body)) ∙ getD-part f frameNumAt (frameDataAt + num) i (omega arith)
 
   pended-fit : num ≡ numIn f → echoable kind num (addressIn f) (named kind num) ≡ true → fitPending (overlay (kind ∷ bodyOf f num) p) ≡ true
   unfolding fitPending overlay numIn addressIn
@@ -50,15 +48,15 @@ module _ (f : List ℕ) (kind num : ℕ) (p : List ℕ) (long : dataPlace + num 
 
 obeyed-fit : (card : Card) (f : List ℕ) (o : Order) → Sound f o → fit card ≡ true → IsFit (obeyed card f o)
 unfolding obeyed interrogated echoed pended acknowledged applied appliedTo
-obeyed-fit card f (Refused number) s e = e
+obeyed-fit card f (Silent number) s e = e
 obeyed-fit card f (Interrogate at n) s e = e
 obeyed-fit card f (Change kind num) s e =
     let t = fit-facts card e in
-    let l : dataPlace + num ≤ length f = omega (arith, s .0) in
+    let l : frameDataAt + num ≤ length f = omega (arith, s .0) in
     let body = length-body f kind num (card .pending) l in
     fit-from _ (t .words-length) (t .memory-length)
     (length-overlay (kind ∷ bodyOf f num) (card .pending) (omega (arith, body, s .1 .0, t .pending-length)) ∙ t .pending-length)
-    (t .words-fit) (pended-fit f kind num (card .pending) l (s .1 .1 .1 .0) (s .1 .1 .1 .1))
+    (t .words-fit) (pended-fit f kind num (card .pending) l (s .1 .1 .0) (s .1 .1 .1))
 obeyed-fit card f Acknowledge s e =
     let t = fit-facts card e in
     by-choice IsFit (eqb (getD (card .pending) kindAt 0) noChange) _ _ (λ _. e)
