@@ -15,7 +15,9 @@ use Rattle.card.specs.Entries.{withCode, setCode, fullDemands, restoredParamete
 use Rattle.card.specs.Reply.{shell, guarded}
 use Rattle.card.specs.Probe.{tenthsOf, readingOf}
 use Rattle.card.specs.Start.{startCard}
-use Rattle.datalink.specs.Frame.{iaIn as datalinkIaIn, commandIn as datalinkCommandIn, numIn as datalinkNumIn, addressIn as datalinkAddressIn, framed as datalinkFramed, commandKnown as datalinkCommandKnown, kindOf as datalinkKindOf, kindIn as datalinkKindIn, namedIn as datalinkNamedIn, isAcknowledge as datalinkIsAcknowledge, carried as datalinkCarried, lengthRight as datalinkLengthRight, formRight as datalinkFormRight, lrcRight as datalinkLrcRight, rangeRight as datalinkRangeRight, changeAllowed as datalinkChangeAllowed, changeRight as datalinkChangeRight, orderIn as datalinkOrderIn, asked as datalinkAsked}
+use Rattle.datalink.specs.Frame.{iaIn as datalinkIaIn, commandIn as datalinkCommandIn, numIn as datalinkNumIn, addressIn as datalinkAddressIn, commandKnown as datalinkCommandKnown, kindOf as datalinkKindOf, kindIn as datalinkKindIn, namedIn as datalinkNamedIn, isAcknowledge as datalinkIsAcknowledge, carried as datalinkCarried, formRight as datalinkFormRight, lrcRight as datalinkLrcRight, rangeRight as datalinkRangeRight, changeAllowed as datalinkChangeAllowed, changeRight as datalinkChangeRight, asked as datalinkAsked}
+use Rattle.datalink.specs.Form.{framed as datalinkFramed, lengthRight as datalinkLengthRight}
+use Rattle.datalink.specs.Stages.{orderIn as datalinkOrderIn}
 use Rattle.datalink.specs.Answer.{response as datalinkResponse, iaOf as datalinkIaOf, shown as datalinkShown, interrogated as datalinkInterrogated, bodyOf as datalinkBodyOf, pended as datalinkPended, echoed as datalinkEchoed, newByte as datalinkNewByte, changed as datalinkChanged, appliedTo as datalinkAppliedTo, applied as datalinkApplied, acknowledged as datalinkAcknowledged, obeyed as datalinkObeyed, datalinkReply as datalinkDatalinkReply}
 use Rattle.lecom.specs.Frame.{lengthRight as lecomLengthRight, figuresRight as lecomFiguresRight, tensIn as lecomTensIn, onesIn as lecomOnesIn, collective as lecomCollective, reaches as lecomReaches, isWrite as lecomIsWrite, codeStart as lecomCodeStart, isExtended as lecomIsExtended, hexStart as lecomHexStart, codeEnd as lecomCodeEnd, codeOf as lecomCodeOf, sizeRight as lecomSizeRight, endRight as lecomEndRight, codeRight as lecomCodeRight, xorFrom as lecomXorFrom, bccOf as lecomBccOf, bccRight as lecomBccRight, pairIn as lecomPairIn, codeNumber as lecomCodeNumber, subcodeRight as lecomSubcodeRight, codeNamed as lecomCodeNamed, codeKnown as lecomCodeKnown, writable as lecomWritable, writeRight as lecomWriteRight, dataOf as lecomDataOf, dataRead as lecomDataRead, takes as lecomTakes, valueRight as lecomValueRight, valueIn as lecomValueIn, dataRight as lecomDataRight, orderIn as lecomOrderIn, asked as lecomAsked}
 use Rattle.lecom.specs.Answer.{valueBody as lecomValueBody, valueBytes as lecomValueBytes, unknownBytes as lecomUnknownBytes, refusalBytes as lecomRefusalBytes, doneBy as lecomDoneBy, refusedBy as lecomRefusedBy, probeAnswer as lecomProbeAnswer, readAnswer as lecomReadAnswer, activated as lecomActivated, stored as lecomStored, written as lecomWritten, obeyed as lecomObeyed, addressOf as lecomAddressOf, lecomReply as lecomLecomReply}

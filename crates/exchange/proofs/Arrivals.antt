@@ -20,15 +20,15 @@ use Rattle.card.specs.Layout.{Card, kindAt}
 use Rattle.card.specs.Change.{noChange, inMemory, namesReadOnly}
 use Rattle.card.specs.Fitness.{fit}
 use Rattle.card.specs.Reply.{Reply, silent, shell, roomLeast}
-use Rattle.datalink.specs.Frame.{numPlace, dataPlace, framed, lengthRight, asked}
+use Rattle.datalink.specs.Form.{frameNumAt, frameDataAt}
+use Rattle.datalink.specs.Frame.{asked}
+use Rattle.datalink.specs.Form.{framed, lengthRight}
 use Rattle.datalink.specs.Answer.{response, iaOf, shown, bodyOf, pended, applied, echoed, interrogated, acknowledged, obeyed, datalinkReply}
 use Rattle.datalink.specs.declared.frame.Order.{Order}
-use Rattle.datalink.specs.declared.frame.Order.the-variants.{Refused, Interrogate, Change, Acknowledge}
+use Rattle.datalink.specs.declared.frame.Order.the-variants.{Silent, Interrogate, Change, Acknowledge}
 use Rattle.master.specs.Request.{Request, namedBy}
 use Rattle.master.specs.Accepted.{Accepted}
 use Rattle.master.specs.Frames.{dataOf, commandOf, body, changeBody, changeFrame, acknowledgeFrame, interrogateFrame, echo}
-use Rattle.exchange.specs.Line.{refused}
-use Rattle.exchange.specs.Premise.{writes}
 use Rattle.exchange.specs.Demand.{writableRange}
 use Rattle.exchange.proofs.Orders.{kindFor, order-change, order-interrogate, order-acknowledge}
 
@@ -80,9 +80,9 @@ module _ (card : Card) (f : List ℕ) (Good : Reply → Type 0) where
       by-shell Got card room f (inl (turned card cardUnfit (lit≤ tt))) (inl (turned card bufferShort (lit≤ tt))) (λ t. subst (λ (x : Order). Got (obeyed card f x)) (sym e) (p t))
 
   -- a test of the order: its refusal turns the frame away
-  or-turned : (t : Bool) (o : Order) (number : ℕ) → foreignAddress ≤ number → (t ≡ true → Got (obeyed card f o)) → Got (obeyed card f (choose t o (Refused number)))
+  or-turned : (t : Bool) (o : Order) (number : ℕ) → foreignAddress ≤ number → (t ≡ true → Got (obeyed card f o)) → Got (obeyed card f (choose t o (Silent number)))
   unfolding obeyed
-  or-turned t o number h p = by-choice (λ (x : Order). Got (obeyed card f x)) t o (Refused number) p (λ _. inl (turned card number h))
+  or-turned t o number h p = by-choice (λ (x : Order). Got (obeyed card f x)) t o (Silent number) p (λ _. inl (turned card number h))
 
 module _ (q : Request) (a : Accepted q) (card : Card) where
   -- the body of the change as the card takes it out of the frame
@@ -90,7 +90,7 @@ module _ (q : Request) (a : Accepted q) (card : Card) where
   unfolding bodyOf changeFrame framed
   body-taken =
       let b = changeBody q in
-      let n : dataPlace + length (dataOf (q .ask)) - numPlace ≡ length b = omega arith in
+      let n : frameDataAt + length (dataOf (q .ask)) - frameNumAt ≡ length b = omega arith in
       ap (λ (k : ℕ). take k (b ++ (sumOf ((commandOf (q .ask) + q .ia) ∷ b) ∷ []))) n ∙ take-append-seam b _
 
   pub change-arrives : (room : ℕ) → Turned card (datalinkReply card room (changeFrame q)) ⊎ Echoed q card (datalinkReply card room (changeFrame q))
@@ -118,7 +118,7 @@ module _ (q : Request) (a : Accepted q) (card : Card) where
       (λ some. inr (record { pending = eqb-false (getD (card .pending) kindAt 0) noChange some; applies = refl; fitting = t }))))
 
   -- NUM and address as the card takes them out of the frame
-  head-taken : (read : List ℕ) → part (interrogateFrame q) numPlace dataPlace ++ read ≡ body (namedBy (q .ask)) (q .address) read
+  head-taken : (read : List ℕ) → part (interrogateFrame q) frameNumAt frameDataAt ++ read ≡ body (namedBy (q .ask)) (q .address) read
   unfolding interrogateFrame framed
   head-taken read = refl
 

@@ -24,7 +24,8 @@ use Rattle.master.specs.declared.Phase.{Phase}
 use Rattle.master.specs.declared.Phase.the-variants.{New, Changing, Acknowledging, Reading, EndedDone, EndedUnknown}
 use Rattle.master.specs.declared.Verdict.{Verdict}
 use Rattle.master.specs.declared.Verdict.the-variants.{Done, Unknown}
-use Rattle.exchange.specs.Line.{Line, refused, afterArrival}
+use Rattle.calls.specs.Calls.{refused}
+use Rattle.exchange.specs.Line.{Line, afterArrival}
 use Rattle.exchange.proofs.Arrivals.{Turned, Echoed, Applied, Shown, none-arrives, change-arrives, acknowledge-arrives, interrogate-arrives}
 use Rattle.calls.proofs.Memory.{Same}
 use Rattle.exchange.proofs.Memory.{range, ours-pended, same-pended, none-applied, asked-applied}

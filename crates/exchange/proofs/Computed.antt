@@ -19,7 +19,9 @@ use Rattle.card.specs.Scans.{allIn, fitAddresses, fitParameters}
 use Rattle.card.specs.Start.{startWords}
 use Rattle.card.specs.Reply.{shell, guarded}
 use Rattle.card.specs.Entries.{withCode, setCode, fullDemands, restoredParameters, registersTo, restoredRegisters, dropped, faulted, restarted, restart}
-use Rattle.datalink.specs.Frame.{iaIn, commandIn, numIn, addressIn, framed, commandKnown, kindOf, kindIn, namedIn, isAcknowledge, carried, lengthRight, formRight, lrcRight, rangeRight, changeAllowed, changeRight, orderIn, asked}
+use Rattle.datalink.specs.Frame.{iaIn, commandIn, numIn, addressIn, commandKnown, kindOf, kindIn, namedIn, isAcknowledge, carried, formRight, lrcRight, rangeRight, changeAllowed, changeRight, asked}
+use Rattle.datalink.specs.Form.{framed, lengthRight}
+use Rattle.datalink.specs.Stages.{orderIn}
 use Rattle.datalink.specs.Answer.{response, iaOf, shown, interrogated, bodyOf, pended, echoed, newByte, changed, appliedTo, applied, acknowledged, obeyed, datalinkReply}
 use Rattle.master.specs.Request.{Request, askable, asAsked}
 use Rattle.master.specs.Request.Ask.{bytes}

@@ -24,7 +24,7 @@ use Rattle.card.specs.Reply.{Reply, silent, sent, shell, guarded, roomLeast}
 use Rattle.card.specs.Entries.{dropped, faulted, restarted, restart, withCode, setCode}
 use Rattle.card.proofs.Facts.{fit-facts}
 use Rattle.datalink.specs.Answer.{newByte, changed, appliedTo, applied, pended}
-use Rattle.datalink.proofs.Staying.{length-changed}
+use Rattle.datalink.proofs.Fits.{length-changed}
 use Rattle.lecom.specs.Answer.{lecomReply}
 use Rattle.love.specs.Answer.{loveReply}
 use Rattle.lucid.specs.Answer.{lucidReply}

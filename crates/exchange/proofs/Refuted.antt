@@ -13,10 +13,11 @@ use Rattle.card.specs.Numbers.{answered, bufferShort, valueOutside, nothingPend
 use Rattle.card.specs.Layout.{Card, cardOf}
 use Rattle.card.specs.Entries.{withCode}
 use Rattle.card.specs.Reply.{Reply, silent}
-use Rattle.datalink.specs.Frame.{framed, longest, asked}
+use Rattle.datalink.specs.Form.{framed, longest}
+use Rattle.datalink.specs.Frame.{asked}
 use Rattle.datalink.specs.Answer.{iaOf, appliedTo}
 use Rattle.datalink.specs.declared.frame.Order.{Order}
-use Rattle.datalink.specs.declared.frame.Order.the-variants.{Refused, Interrogate, Change, Acknowledge}
+use Rattle.datalink.specs.declared.frame.Order.the-variants.{Silent, Interrogate, Change, Acknowledge}
 use Rattle.master.specs.Request.{Request, askable}
 use Rattle.master.specs.Request.Ask.{bytes}
 use Rattle.master.specs.Frames.{body, changeFrame, acknowledgeFrame, interrogateFrame, isEcho, confirms}
@@ -223,21 +224,21 @@ cardBy replies = record { new = New; says = saysOf; step = stepOf; card = replie
 -- what a call asks of the Datalink entry
 abbrev frameAsks : Card → Dialect → List ℕ → Order
 frameAsks card Datalink f = asked (iaOf card) f
-frameAsks card Lecom f = Refused 0
-frameAsks card Love f = Refused 0
-frameAsks card Lucid f = Refused 0
+frameAsks card Lecom f = Silent 0
+frameAsks card Love f = Silent 0
+frameAsks card Lucid f = Silent 0
 
 abbrev asks : Card → Entry → Order
-asks card (SetCode channel code) = Refused 0
-asks card Restart = Refused 0
-asks card (Governor channel) = Refused 0
+asks card (SetCode channel code) = Silent 0
+asks card Restart = Silent 0
+asks card (Governor channel) = Silent 0
 asks card (Frame dialect room f) = frameAsks card dialect f
-asks card (WriteImage room) = Refused 0
-asks card (ReadImage img) = Refused 0
+asks card (WriteImage room) = Silent 0
+asks card (ReadImage img) = Silent 0
 
 -- one that applies a change at its echo, and once more at the acknowledge: the customer's clauses do not catch it, since to ask once more changes nothing; `untouched` does
 unfoldable eagerly : Order → Reply → Reply
-eagerly (Refused number) r = r
+eagerly (Silent number) r = r
 eagerly (Interrogate at n) r = r
 eagerly (Change kind num) r =
     choose (eqb (r .number) answered) (record { number = r .number; bytes = r .bytes; card = cardOf (r .card .words) (appliedTo (r .card .memory) (r .card .pending)) (r .card .pending) }) r
@@ -253,7 +254,7 @@ refute-eager =
 
 -- one whose acknowledge leaves the byte 1011h as it was
 unfoldable halved : Card → Order → Reply → Reply
-halved card (Refused number) r = r
+halved card (Silent number) r = r
 halved card (Interrogate at n) r = r
 halved card (Change kind num) r = r
 halved card Acknowledge r =

@@ -14,7 +14,8 @@ use Rattle.wire.specs.Choose.{choose}
 use Rattle.card.specs.Numbers.{valueOutside, bufferShort}
 use Rattle.card.specs.Layout.{Card}
 use Rattle.card.specs.Change.{memoryStart}
-use Rattle.datalink.specs.Frame.{framed, longest, isAcknowledge}
+use Rattle.datalink.specs.Form.{framed, longest}
+use Rattle.datalink.specs.Frame.{isAcknowledge}
 use Rattle.datalink.specs.Answer.{response}
 use Rattle.master.specs.Request.{Request, namedBy, asAsked, askable}
 use Rattle.master.specs.Accepted.{Accepted}
