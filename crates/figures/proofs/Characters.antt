@@ -2,29 +2,23 @@
 use Prim.Native.Nat.{ℕ, suc, _+_, _-_, _*_, _%_, _≤_, _<_}
 use mathlib.Core.Path.{_≡_, refl, sym, ap, _∙_}
 use mathlib.Core.Bool.{Bool, true, false, _&&_, not, and-assoc, and-false}
-use mathlib.Core.List.{List, [], _∷_, _++_, append-assoc}
+use mathlib.Core.List.{List, [], _∷_, _++_}
 use native.Mathlib.Omega.{arith}
 use native.Mathlib.Decide.{decLt}
-use native.Mathlib.Numerals.{add-one}
 use lib.Dec.{leb, ltb, eqb}
-use lib.ListN.{length, getD, take, drop, set}
-use lib.Seq.{drop-cons, sets-eq}
+use lib.ListN.{length, getD, drop}
+use lib.Seq.{drop-cons}
 use borrow.Author.Tests.{leb-true, le-leb, lt-leb, lt-ltb, le-ltb, ne-eqb}
 use Rattle.wire.specs.Choose.{choose}
-use Rattle.wire.specs.Buffer.{put}
 use Rattle.wire.proofs.Cases.{cases, by-choice}
+use Rattle.wire.proofs.Tests.{and-true}
 use Rattle.figures.specs.Figure.{base, none, noByte, inRange, figureOf, charOf, allFigures, pairByte}
-
--- two tests that hold together hold each
-pub both : (a b : Bool) → (a && b) ≡ true → (a ≡ true) × (b ≡ true)
-both true b h = (refl, h)
-both false b h = (h, let z : _≡_ {A = ℕ} 0 1 = cc in let n : ⊥ = omega arith in absurd n)
 
 -- a range's two bounds
 pub in-range : (lo hi b : ℕ) → inRange lo hi b ≡ true → (lo ≤ b) × (b ≤ hi)
 unfolding inRange
 in-range lo hi b h =
-    let t = both (leb lo b) (leb b hi) h in
+    let t = and-true (leb lo b) (leb b hi) h in
     (leb-true lo b (t .0), leb-true b hi (t .1))
 
 -- within both bounds
@@ -97,8 +91,3 @@ pair-figures limit high low = by (decLt (figureOf high) limit) (decLt (figureOf 
         simp (lt-ltb (figureOf high) limit h, lt-ltb (figureOf low) limit l, lt-leb limit (figureOf high) h, lt-leb limit (figureOf low) l, ne-eqb (base * (figureOf high % base) + figureOf low % base) noByte (omega arith))
     by (yes h) (no l) = simp (lt-ltb (figureOf high) limit h, le-ltb (figureOf low) limit (omega arith), lt-leb limit (figureOf high) h, le-leb limit (figureOf low) (omega arith))
     by (no h) _ = simp (le-ltb (figureOf high) limit (omega arith), le-leb limit (figureOf high) (omega arith))
-
--- two stores are a list of two, put there
-pub put-two : (d : List ℕ) (at x y : ℕ) → at + 2 ≤ length d → set (set d at x) (at + 1) y ≡ put d at (x ∷ y ∷ [])
-unfolding put
-put-two d at x y h = rw add-one (sets-eq (x ∷ y ∷ []) d at h ∙ append-assoc (take at d) (x ∷ y ∷ []) (drop (at + 2) d))

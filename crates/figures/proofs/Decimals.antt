@@ -14,9 +14,10 @@ use borrow.Author.Tests.{lt-ltb, le-ltb, ltb-true}
 use Rattle.wire.specs.Choose.{choose}
 use Rattle.wire.specs.Buffer.{put}
 use Rattle.wire.proofs.Cases.{yes as first, no as second}
+use Rattle.wire.proofs.Tests.{and-true}
 use Rattle.figures.specs.Figure.{zeroChar, decimal, figureOf, charOf, allFigures}
 use Rattle.figures.specs.Decimal.{digits, sizeWithin, sizeOf, shortest, valueFrom, valueOf}
-use Rattle.figures.proofs.Characters.{both, char-decimal, figure-char, all-append}
+use Rattle.figures.proofs.Characters.{char-decimal, figure-char, all-append}
 
 -- there are as many figures as asked for
 pub digits-length : (k n : ℕ) → length (digits k n) ≡ k
@@ -65,7 +66,7 @@ value-from-below : (v : ℕ) (s : List ℕ) → allFigures decimal s ≡ true �
 unfolding valueFrom allFigures
 value-from-below v [] h = omega arith
 value-from-below v (x ∷ s) h =
-    let t = both (ltb (figureOf x) decimal) (allFigures decimal s) h in
+    let t = and-true (ltb (figureOf x) decimal) (allFigures decimal s) h in
     let f = ltb-true (figureOf x) decimal (t .0) in
     let r = value-from-below (v * 10 + figureOf x) s (t .1) in
     let m : (v * 10 + figureOf x + 1) * 10 ^ length s ≤ ((v + 1) * 10) * 10 ^ length s = mul-le-mul-right (10 ^ length s) (omega arith) in

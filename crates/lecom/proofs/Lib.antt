@@ -1,5 +1,4 @@
-pub mod Places
+pub mod Frames
 pub mod Writes
-pub mod Orders
 pub mod Laws
 pub mod Fits

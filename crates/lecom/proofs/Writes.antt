@@ -1,32 +1,33 @@
 -- An answer that is written piece by piece, and sent unless the address is collective. Assumes nothing.
 use Prim.Native.Nat.{ℕ, _+_, _-_, _≤_, _<_}
-use mathlib.Core.Path.{_≡_, refl, sym, ap, _∙_, subst}
-use mathlib.Core.Bool.{true, false}
+use mathlib.Core.Path.{_≡_, refl, ap, _∙_}
+use mathlib.Core.Bool.{Bool, true, false}
 use mathlib.Core.List.{List, [], _∷_, _++_, append-assoc}
 use native.Mathlib.Omega.{arith}
-use lib.ListN.{length, set, length-append, length-take, length-drop}
+use lib.ListN.{length, set, length-take, length-drop}
 use Rattle.wire.specs.Buffer.{put, part}
 use Rattle.wire.proofs.Cases.{yes, no}
-use Rattle.wire.proofs.Buffers.{overlay-none, overlay-sets, overlay-set, overlay-put, overlay-rest}
+use Rattle.wire.proofs.Buffers.{overlay-rest}
 use Rattle.figures.specs.Signed.{textOf, longestText}
 use Rattle.figures.proofs.Texts.{text-length}
 use Rattle.card.specs.Numbers.{answered, done}
-use Rattle.card.specs.Reply.{Wrote, Answer, Told}
-use Rattle.card.proofs.Replies.{wrote-none, wrote-one, wrote-set, wrote-put, told-as}
-use Rattle.lecom.specs.Frame.{stx, etx, collective, codeStart, codeEnd, codeOf, bccOf}
-use Rattle.lecom.specs.Answer.{valueBody, valueBytes, refusalBytes, doneBy, refusedBy}
-use Rattle.lecom.proofs.Places.{placed}
+use Rattle.card.specs.Reply.{Wrote, Told, GaveWords, leaving}
+use Rattle.card.proofs.Replies.{wrote-none, wrote-one, wrote-set, wrote-put, told-as, gave-leaving}
+use Rattle.lecom.specs.Form.{stx, etx}
+use Rattle.lecom.specs.Frame.{collective, codeAt, codeEnd, codeOf, bccOf}
+use Rattle.lecom.specs.Answer.{valueBody, valueBytes, refusalBytes, quietly, doneBy, refusedBy}
+use Rattle.lecom.proofs.Frames.{bounds}
 
 -- a code is as long as its places are apart, and has at most seven characters
-pub code-length : (f : List ℕ) → codeEnd f ≤ length f → length (codeOf f) ≡ codeEnd f - codeStart f
+pub code-length : (f : List ℕ) → codeEnd f ≤ length f → length (codeOf f) ≡ codeEnd f - codeAt f
 unfolding codeOf
-code-length f h = simp (length-take, length-drop) (omega (arith, placed f))
+code-length f h = simp (length-take, length-drop) (omega (arith, bounds f))
 
 pub code-most : (f : List ℕ) → codeEnd f ≤ length f → length (codeOf f) ≤ 7
-code-most f h = omega (arith, placed f, code-length f h)
+code-most f h = omega (arith, bounds f, code-length f h)
 
 -- STX, and the code copied after it
-pub wrote-code : (f out : List ℕ) (at end : ℕ) (out′ : List ℕ) → at ≡ codeStart f → end ≡ codeEnd f → codeEnd f ≤ length f → 0 < length out → out′ ≡ put (set out 0 stx) 1 (part f at end)
+pub wrote-code : (f out : List ℕ) (at end : ℕ) (out′ : List ℕ) → at ≡ codeAt f → end ≡ codeEnd f → codeEnd f ≤ length f → 0 < length out → out′ ≡ put (set out 0 stx) 1 (part f at end)
     → Wrote (stx ∷ codeOf f) out (1 + (end - at)) out′
 unfolding codeOf
 wrote-code f out at end out′ a e h l p =
@@ -55,20 +56,24 @@ wrote-value f out value at k bcc out₁ out₂ w n p e h =
     rw y (wrote-set (stx ∷ valueBody f value) out x (bccOf (valueBody f value)) h)
 
 -- a frame to a collective address: no byte
-pub done-quiet : (f bytes out : List ℕ) → collective f ≡ true → Told (doneBy f bytes) out done 0 out
+pub done-quiet : (quiet : Bool) (bytes out : List ℕ) → quiet ≡ true → Told (doneBy quiet bytes) out done 0 out
 unfolding doneBy
-done-quiet f bytes out h = told-as _ _ (yes _ _ _ _ h refl) (record { numbered = refl; wrote = wrote-none out })
+done-quiet quiet bytes out h = told-as _ _ (yes _ _ _ _ h refl) (record { numbered = refl; wrote = wrote-none out })
 
 pub refused-quiet : (f : List ℕ) (number : ℕ) (out : List ℕ) → collective f ≡ true → Told (refusedBy f number) out number 0 out
 unfolding refusedBy
 refused-quiet f number out h = told-as _ _ (yes _ _ _ _ h refl) (record { numbered = refl; wrote = wrote-none out })
 
 -- a frame to the unit's own: the bytes
-pub done-sent : (f bytes out : List ℕ) {len : ℕ} {out′ : List ℕ} → collective f ≡ false → Wrote bytes out len out′ → Told (doneBy f bytes) out answered len out′
+pub done-sent : (quiet : Bool) (bytes out : List ℕ) {len : ℕ} {out′ : List ℕ} → quiet ≡ false → Wrote bytes out len out′ → Told (doneBy quiet bytes) out answered len out′
 unfolding doneBy
-done-sent f bytes out h w = told-as _ _ (no _ _ _ _ h refl) (record { numbered = refl; wrote = w })
+done-sent quiet bytes out h w = told-as _ _ (no _ _ _ _ h refl) (record { numbered = refl; wrote = w })
 
 pub refused-sent : (f : List ℕ) (number : ℕ) (out : List ℕ) {len : ℕ} {out′ : List ℕ} → collective f ≡ false → Wrote (refusalBytes f number) out len out′
     → Told (refusedBy f number) out number len out′
 unfolding refusedBy
 refused-sent f number out h w = told-as _ _ (no _ _ _ _ h refl) (record { numbered = refl; wrote = w })
+
+-- a refusal with no byte
+pub gave-silent : (words : List ℕ) (number : ℕ) (out : List ℕ) → GaveWords (leaving words (quietly number)) out number 0 words out
+gave-silent words number out = gave-leaving words (quietly number) out (record { numbered = refl; wrote = wrote-none out })

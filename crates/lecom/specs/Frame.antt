@@ -1,116 +1,39 @@
 -- What a LECOM frame asks. Document 01, "LECOM", with source document 001.
--- Read: EOT, two figures, code, ENQ. Write: EOT, two figures, STX, code, 1 to 12 data characters, ETX, BCC.
-use Prim.Native.Nat.{ℕ, _+_, _-_, _*_, _/_}
+use Prim.{Unit}
+use Prim.Native.Nat.{ℕ, _+_, _-_, _*_, _/_, _≤_, _<_}
+use mathlib.Core.Path.{_≡_}
 use mathlib.Core.Bool.{Bool, true, false, _&&_, _||_}
 use mathlib.Core.List.{List, [], _∷_}
 use lib.Bits.{bitXor}
-use lib.Dec.{leb, ltb, eqb}
+use lib.Dec.{leb, eqb}
 use lib.ListN.{length, getD}
 use Rattle.wire.specs.Choose.{choose}
 use Rattle.wire.specs.Buffer.{part}
 use Rattle.wire.specs.Sum.{byteValues}
+use Rattle.wire.specs.Word.{minus}
 use Rattle.figures.specs.Figure.{decimal, upperHex, figureOf, allFigures, pairByte}
 use Rattle.figures.specs.Signed.{parsedOf}
 use Rattle.figures.specs.declared.Parsed.{Parsed}
 use Rattle.figures.specs.declared.Parsed.the-variants.{Value, Wrong}
 use Rattle.card.specs.Numbers.{foreignAddress, frameForm, checkCharacter, rangeUnknown, valueOutside, readOnly}
 use Rattle.card.specs.Layout.{registers, channels}
-use Rattle.card.specs.Fitness.{registerMost}
+use Rattle.card.specs.Fitness.{inSpan, registerMost}
+use Rattle.lecom.specs.Form.{lengthRight, stx, etx, eot, enq, extendedMark, tensAt, onesAt, startAt, standardHex, extendedHex, standardAt, subcodeAt, dataLeast, dataMost, closing, namedBy, known, writable, takes}
+use Rattle.lecom.specs.declared.form.Named.{Named}
+use Rattle.lecom.specs.declared.form.Named.the-variants.{Register, Probe, Activate, Store, Nothing}
 use Rattle.lecom.specs.declared.frame.Order.{Order}
-use Rattle.lecom.specs.declared.frame.Order.the-variants.{Unheard, Refused, Read, Write}
-
--- "LECOM 6 and 25": the shortest and the longest frame
-abbrev pub shortest : ℕ
-shortest = 6
-
-abbrev pub longest : ℕ
-longest = 25
-
--- control characters (source document 001, section 7)
-abbrev pub stx : ℕ
-stx = 0x02
-
-abbrev pub etx : ℕ
-etx = 0x03
-
-abbrev pub eot : ℕ
-eot = 0x04
-
-abbrev pub enq : ℕ
-enq = 0x05
-
-abbrev pub ack : ℕ
-ack = 0x06
-
-abbrev pub nak : ℕ
-nak = 0x15
-
--- "!", before an extended code's six characters
-abbrev pub extendedMark : ℕ
-extendedMark = 0x21
-
--- the places of the two address figures, and of a write's STX, where a read's code begins
-abbrev pub tensPlace : ℕ
-tensPlace = 1
-
-abbrev pub onesPlace : ℕ
-onesPlace = 2
-
-abbrev pub startPlace : ℕ
-startPlace = 3
-
--- "A code is two upper-case hex characters, or "!" and six of them"
-abbrev pub standardHex : ℕ
-standardHex = 2
-
-abbrev pub extendedHex : ℕ
-extendedHex = 6
-
--- in an extended code's hex characters the place of the standard code, and of the subcode, "the last two"
-abbrev pub standardPlace : ℕ
-standardPlace = 2
-
-abbrev pub subcodePlace : ℕ
-subcodePlace = 4
-
--- "1 to 12 data characters"
-abbrev pub dataLeast : ℕ
-dataLeast = 1
-
-abbrev pub dataMost : ℕ
-dataMost = 12
-
--- how many bytes come after the data: ETX and BCC
-abbrev pub closing : ℕ
-closing = 2
-
--- "Codes 60h to 63h are the probes .. 67h is ACTIVATE, 68h is STORE"; a code below the first probe's is a register
-abbrev pub firstProbe : ℕ
-firstProbe = registers
-
-abbrev pub probesEnd : ℕ
-probesEnd = firstProbe + channels
-
-abbrev pub activate : ℕ
-activate = 0x67
-
-abbrev pub store : ℕ
-store = 0x68
-
--- a frame's length lies from the shortest to the longest
-unfoldable pub lengthRight : ℕ → Bool
-lengthRight n = leb shortest n && leb n longest
+use Rattle.lecom.specs.declared.frame.Order.the-variants.{Silent, Refused, Read, Write}
 
 -- both address figures are figures
 unfoldable pub figuresRight : List ℕ → Bool
-figuresRight f = allFigures decimal (part f tensPlace startPlace)
+figuresRight f = allFigures decimal (part f tensAt startAt)
 
 -- the values of the address figures
 unfoldable pub tensIn : List ℕ → ℕ
-tensIn f = figureOf (getD f tensPlace 0)
+tensIn f = figureOf (getD f tensAt 0)
 
 unfoldable pub onesIn : List ℕ → ℕ
-onesIn f = figureOf (getD f onesPlace 0)
+onesIn f = figureOf (getD f onesAt 0)
 
 -- an address that ends in 0 is collective: no unit has such a one for itself
 unfoldable pub collective : List ℕ → Bool
@@ -123,25 +46,25 @@ reaches address f =
 
 -- a frame with STX after its figures is a write, any other a read
 unfoldable pub isWrite : List ℕ → Bool
-isWrite f = eqb (getD f startPlace 0) stx
+isWrite f = eqb (getD f startAt 0) stx
 
 -- the place of the code's first character
-unfoldable pub codeStart : List ℕ → ℕ
-codeStart f = choose (isWrite f) (startPlace + 1) startPlace
+unfoldable pub codeAt : List ℕ → ℕ
+codeAt f = choose (isWrite f) (startAt + 1) startAt
 
 unfoldable pub isExtended : List ℕ → Bool
-isExtended f = eqb (getD f (codeStart f) 0) extendedMark
+isExtended f = eqb (getD f (codeAt f) 0) extendedMark
 
 -- the place of the code's first hex character, and the place after its last
-unfoldable pub hexStart : List ℕ → ℕ
-hexStart f = choose (isExtended f) (codeStart f + 1) (codeStart f)
+unfoldable pub hexAt : List ℕ → ℕ
+hexAt f = choose (isExtended f) (codeAt f + 1) (codeAt f)
 
 unfoldable pub codeEnd : List ℕ → ℕ
-codeEnd f = choose (isExtended f) (hexStart f + extendedHex) (hexStart f + standardHex)
+codeEnd f = choose (isExtended f) (hexAt f + extendedHex) (hexAt f + standardHex)
 
 -- the code as received
 unfoldable pub codeOf : List ℕ → List ℕ
-codeOf f = part f (codeStart f) (codeEnd f)
+codeOf f = part f (codeAt f) (codeEnd f)
 
 -- layout: a read ends after the byte that follows its code; a write has 1 to 12 data characters, ETX and BCC
 unfoldable pub sizeRight : List ℕ → Bool
@@ -156,7 +79,7 @@ endRight f = choose (isWrite f) (eqb (getD f (length f - closing) 0) etx) (eqb (
 
 -- layout: the code's characters are upper-case hex
 unfoldable pub codeRight : List ℕ → Bool
-codeRight f = allFigures upperHex (part f (hexStart f) (codeEnd f))
+codeRight f = allFigures upperHex (part f (hexAt f) (codeEnd f))
 
 -- the exclusive-or of the bytes that are left, after those of x
 unfoldable pub xorFrom : ℕ → List ℕ → ℕ
@@ -169,7 +92,7 @@ bccOf bytes = xorFrom 0 bytes
 
 -- "BCC is the exclusive-or from the code's first character ("!" too) through ETX." A read has none
 unfoldable pub bccRight : List ℕ → Bool
-bccRight f = choose (isWrite f) (eqb (bccOf (part f (codeStart f) (length f - 1))) (getD f (length f - 1) 0)) true
+bccRight f = choose (isWrite f) (eqb (bccOf (part f (codeAt f) (length f - 1))) (getD f (length f - 1) 0)) true
 
 -- the byte that two hex characters are
 unfoldable pub pairIn : List ℕ → ℕ → ℕ
@@ -177,27 +100,23 @@ pairIn f at = pairByte upperHex (getD f at 0) (getD f (at + 1) 0)
 
 -- a code's number: that of its two hex characters, or of an extended code's first four; so "!00" before a standard code reaches the same register
 unfoldable pub codeNumber : List ℕ → ℕ
-codeNumber f = choose (isExtended f) (byteValues * pairIn f (hexStart f) + pairIn f (hexStart f + standardPlace)) (pairIn f (hexStart f))
+codeNumber f = choose (isExtended f) (byteValues * pairIn f (hexAt f) + pairIn f (hexAt f + standardAt)) (pairIn f (hexAt f))
 
 -- an extended code's last two characters are 00
 unfoldable pub subcodeRight : List ℕ → Bool
-subcodeRight f = choose (isExtended f) (eqb (pairIn f (hexStart f + subcodePlace)) 0) true
+subcodeRight f = choose (isExtended f) (eqb (pairIn f (hexAt f + subcodeAt)) 0) true
 
--- a number that names a register, a probe, ACTIVATE or STORE
-unfoldable pub codeNamed : ℕ → Bool
-codeNamed code = ltb code probesEnd || (eqb code activate || eqb code store)
+-- what a frame's code names; "a subcode other than 00 is an unknown code"
+unfoldable pub namedIn : List ℕ → Named
+namedIn f = choose (subcodeRight f) (namedBy (codeNumber f)) Nothing
 
--- "a subcode other than 00 is an unknown code"
+-- "code": it names something
 unfoldable pub codeKnown : List ℕ → Bool
-codeKnown f = subcodeRight f && codeNamed (codeNumber f)
+codeKnown f = known (namedIn f)
 
--- a probe is read-only
-unfoldable pub writable : ℕ → Bool
-writable code = ltb code firstProbe || leb probesEnd code
-
--- "read-only": a write names no probe
+-- "read-only": a write names what may be written
 unfoldable pub writeRight : List ℕ → Bool
-writeRight f = choose (isWrite f) (writable (codeNumber f)) true
+writeRight f = choose (isWrite f) (writable (namedIn f)) true
 
 -- the data characters, and what they are read as: "an optional minus, then at least one figure", −999,999 to 999,999
 unfoldable pub dataOf : List ℕ → List ℕ
@@ -206,31 +125,27 @@ dataOf f = part f (codeEnd f) (length f - closing)
 unfoldable pub dataRead : List ℕ → Parsed
 dataRead f = parsedOf registerMost (dataOf f)
 
--- "67h and 68h take a data value of 0 or 1"; a register takes every value
-unfoldable pub takes : ℕ → ℕ → Bool
-takes code value = ltb code firstProbe || leb value 1
-
--- a value that the code takes
-unfoldable pub valueRight : ℕ → Parsed → Bool
-valueRight code Wrong = false
-valueRight code (Value value) = takes code value
+-- a value that what is named takes
+unfoldable pub valueRight : Named → Parsed → Bool
+valueRight named Wrong = false
+valueRight named (Value value) = takes named value
 
 -- the value that was read, if one was
 unfoldable pub valueIn : Parsed → ℕ
 valueIn Wrong = 0
 valueIn (Value value) = value
 
--- "data": a write's data are a value that its code takes
+-- "data": a write's data are a value that what it names takes
 unfoldable pub dataRight : List ℕ → Bool
-dataRight f = choose (isWrite f) (valueRight (codeNumber f) (dataRead f)) true
+dataRight f = choose (isWrite f) (valueRight (namedIn f) (dataRead f)) true
 
 -- what a frame that passed asks
 unfoldable pub orderIn : List ℕ → Order
-orderIn f = choose (isWrite f) (Write (codeNumber f) (valueIn (dataRead f))) (Read (codeNumber f))
+orderIn f = choose (isWrite f) (Write (namedIn f) (valueIn (dataRead f))) (Read (namedIn f))
 
--- a test, the number that refuses a frame where it fails, and what comes after it: `unheard` with no byte on the wire
-abbrev pub unheard : Bool → ℕ → Order → Order
-unheard test number rest = choose test rest (Unheard number)
+-- a test, the number that refuses a frame where it fails, and what comes after it: `silently` with no byte on the wire
+abbrev pub silently : Bool → ℕ → Order → Order
+silently test number rest = choose test rest (Silent number)
 
 abbrev pub unless : Bool → ℕ → Order → Order
 unless test number rest = choose test rest (Refused number)
@@ -239,10 +154,10 @@ unless test number rest = choose test rest (Refused number)
 -- data (7); fault (9)": the fault is found in reading the probe
 unfoldable pub asked : ℕ → List ℕ → Order
 asked address f =
-    unheard (lengthRight (length f)) frameForm
-    (unheard (eqb (getD f 0 0) eot) frameForm
-    (unheard (figuresRight f) frameForm
-    (unheard (reaches address f) foreignAddress
+    silently (lengthRight (length f)) frameForm
+    (silently (eqb (getD f 0 0) eot) frameForm
+    (silently (figuresRight f) frameForm
+    (silently (reaches address f) foreignAddress
     (unless (sizeRight f) frameForm
     (unless (endRight f) frameForm
     (unless (codeRight f) frameForm
@@ -251,3 +166,19 @@ asked address f =
     (unless (writeRight f) readOnly
     (unless (dataRight f) valueOutside
     (orderIn f)))))))))))
+
+-- the card has what is named
+abbrev pub Has : Named → Type 0
+Has (Register k) = k < registers
+Has (Probe channel) = channel < channels
+Has Activate = Unit {0}
+Has Store = Unit {0}
+Has Nothing = Unit {0}
+
+-- what is known of an order that a frame asks: the frame holds its code wherever the answer shows it, the card has what is named, and a
+-- value to be stored is in the range of a register
+abbrev pub Sound : List ℕ → Order → Type 0
+Sound f (Silent number) = Unit {0}
+Sound f (Refused number) = number ≡ rangeUnknown → codeEnd f ≤ length f
+Sound f (Read named) = (codeEnd f ≤ length f) × Has named
+Sound f (Write named value) = Has named × (inSpan (minus registerMost) registerMost value ≡ true)

@@ -1,3 +1,4 @@
+pub mod Form
 pub mod Frame
 pub mod Stages
 pub mod Answer

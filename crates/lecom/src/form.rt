@@ -1,8 +1,7 @@
-// The dialect's type: its shortest and longest frame and the rest of its form, for frame checks and receivers. Document 01, "LECOM".
-use card::layout::CHANNELS;
-use card::layout::REGISTERS;
+// The dialect's type: its shortest and longest frame and the rest of its form, for frame checks and receivers; and what a code names.
+// Document 01, "LECOM".
 ghost use mathlib.Core.Path.{_≡_};
-ghost use Rattle.lecom.specs.Frame.{lengthRight};
+ghost use Rattle.lecom.specs.Form.{lengthRight, namedBy, known, writable, command, takes};
 
 pub struct Lecom {}
 
@@ -45,10 +44,12 @@ impl Lecom {
     pub const DATA_MOST: usize = 12;
 
     pub const CLOSING: usize = 2;
-    // "What the card holds": codes of the probes, which come after those of the registers, and of the two commands.
-    pub const FIRST_PROBE: u32 = REGISTERS as u32;
+    // "What the card holds": the codes of the registers, which begin at 0, of the probes and of the two commands.
+    pub const LAST_REGISTER: u32 = 0x5F;
 
-    pub const PROBES_END: u32 = Lecom::FIRST_PROBE + CHANNELS as u32;
+    pub const FIRST_PROBE: u32 = 0x60;
+
+    pub const LAST_PROBE: u32 = 0x63;
 
     pub const ACTIVATE: u32 = 0x67;
 
@@ -60,4 +61,75 @@ impl Lecom {
     {
         (Lecom::SHORTEST <= n) & (n <= Lecom::LONGEST)
     }
+}
+
+// What a code names: a register, the probe of a channel, one of the two commands, or nothing.
+pub enum Named {
+    Register(u32),
+    Probe(u32),
+    Activate,
+    Store,
+    Nothing,
+}
+
+// What the code of a number names. Nothing else in the card decides this.
+pub fn named_by(code: u32) -> Named
+    ensures { λ r. ⌜ r ≡ namedBy code ⌝ }
+{
+    if code <= Lecom::LAST_REGISTER {
+        return Named::Register(code);
+    }
+    if (Lecom::FIRST_PROBE <= code) & (code <= Lecom::LAST_PROBE) {
+        return Named::Probe(code - Lecom::FIRST_PROBE);
+    }
+    if code == Lecom::ACTIVATE {
+        return Named::Activate;
+    }
+    if code == Lecom::STORE {
+        return Named::Store;
+    }
+    Named::Nothing
+}
+
+pub fn is_known(named: Named) -> bool
+    ensures { λ r. ⌜ r ≡ known named ⌝ }
+{
+    match named {
+        Named::Register(_) => true,
+        Named::Probe(_) => true,
+        Named::Activate => true,
+        Named::Store => true,
+        Named::Nothing => false,
+    }
+}
+
+pub fn is_writable(named: Named) -> bool
+    ensures { λ r. ⌜ r ≡ writable named ⌝ }
+{
+    match named {
+        Named::Register(_) => true,
+        Named::Probe(_) => false,
+        Named::Activate => true,
+        Named::Store => true,
+        Named::Nothing => false,
+    }
+}
+
+fn is_command(named: Named) -> bool
+    ensures { λ r. ⌜ r ≡ command named ⌝ }
+{
+    match named {
+        Named::Register(_) => false,
+        Named::Probe(_) => false,
+        Named::Activate => true,
+        Named::Store => true,
+        Named::Nothing => false,
+    }
+}
+
+// Whether what is named takes a value.
+pub fn is_taken(named: Named, value: u32) -> bool
+    ensures { λ r. ⌜ r ≡ takes named value ⌝ }
+{
+    !is_command(named) | (value <= 1)
 }

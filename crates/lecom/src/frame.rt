@@ -1,5 +1,7 @@
 // What a LECOM frame asks.
+use crate::form;
 use crate::form::Lecom;
+use crate::form::Named;
 use card::fitness::REGISTER_MOST;
 use card::numbers::CHECK_CHARACTER;
 use card::numbers::FOREIGN_ADDRESS;
@@ -14,20 +16,33 @@ use wire::BYTE_VALUES;
 ghost use mathlib.Core.Path.{_≡_};
 ghost use mathlib.Core.Bool.{true};
 ghost use Prim.Native.Nat.{_+_, _≤_};
-ghost use lib.ListN.{length};
+ghost use lib.ListN.{length, getD};
+ghost use Rattle.wire.specs.Choose.{choose};
 ghost use Rattle.card.specs.Numbers.{valueOutside, readOnly};
-ghost use Rattle.lecom.specs.Frame.{shortest, collective, reaches, isWrite, codeStart, isExtended, hexStart, codeEnd, sizeRight, endRight, codeRight, bccOf, bccRight, pairIn, codeNumber, subcodeRight, codeNamed, codeKnown, writable, writeRight, takes, valueRight, valueIn, dataRight, orderIn, unless, asked};
-ghost use Rattle.lecom.specs.Stages.{heard};
+ghost use Rattle.lecom.specs.Form.{shortest};
+ghost use Rattle.lecom.specs.Frame.{reaches, codeEnd, sizeRight, endRight, codeRight, bccOf, bccRight, pairIn, namedIn, writeRight, valueRight, valueIn, dataRight, orderIn, unless, asked};
+ghost use Rattle.lecom.specs.Stages.{Outlines, heard};
 
 // What an address's first figure counts.
 const TEN: u32 = DECIMAL as u32;
 
-// What a frame asks: nothing, with no byte sent; nothing, and the unit says so; a code's value; or a value for a code.
+// What a frame asks: nothing, with no byte sent; nothing, and the unit says so; the value of what is named; or a value for it.
 pub enum Order {
-    Unheard(u8),
+    Silent(u8),
     Refused(u8),
-    Read(u32),
-    Write(u32, u32),
+    Read(Named),
+    Write(Named, u32),
+}
+
+// What judge and answer need of a frame: whether its address is collective, whether it is a write, whether its code is extended, and where the
+// code and its hex characters begin and end.
+pub struct Outline {
+    pub collective: bool,
+    pub write: bool,
+    pub extended: bool,
+    pub start: usize,
+    pub hex: usize,
+    pub end: usize,
 }
 
 // The block check character of s.
@@ -43,118 +58,104 @@ pub fn bcc(s: &[u8]) -> u8
     x
 }
 
-// Whether the address is a collective one.
-pub fn is_collective(f: &[u8]) -> bool
-    requires { ⌜ shortest ≤ length (now f) ⌝ }
-    ensures { λ r. ⌜ r ≡ collective (now (f .entry)) ⌝ }
+// The byte at a place of the frame, 0 past its end.
+fn byte_at(f: &[u8], at: usize) -> u8
+    ensures { λ r. ⌜ r ≡ getD (now (f .entry)) at 0 ⌝ }
 {
-    figures::figure(f[Lecom::ONES]) == 0
+    if at < f.len() {
+        return f[at];
+    }
+    0
+}
+
+// One of two places, by a test.
+fn pick(test: bool, a: usize, b: usize) -> usize
+    ensures { λ r. ⌜ r ≡ choose test a b ⌝ }
+{
+    if test {
+        return a;
+    }
+    b
+}
+
+// The outline of any frame.
+pub fn outline_of(f: &[u8]) -> Outline
+    ensures { λ r. ⌜ Outlines (now (f .entry)) r ⌝ }
+{
+    let write = byte_at(f, Lecom::START) == Lecom::STX;
+    let start = pick(write, Lecom::START + 1, Lecom::START);
+    let extended = byte_at(f, start) == Lecom::EXTENDED;
+    let hex = pick(extended, start + 1, start);
+    let end = pick(
+        extended,
+        hex + Lecom::EXTENDED_HEX,
+        hex + Lecom::STANDARD_HEX,
+    );
+    let collective = figures::figure(byte_at(f, Lecom::ONES)) == 0;
+    Outline {
+        collective,
+        write,
+        extended,
+        start,
+        hex,
+        end,
+    }
 }
 
 // Whether the address reaches the unit at this one.
-fn is_reached(address: u32, f: &[u8]) -> bool
-    requires { ⌜ shortest ≤ length (now f) ⌝ }
+fn is_reached(address: u32, f: &[u8], outline: Outline) -> bool
+    requires { ⌜ (shortest ≤ length (now f)) × Outlines (now f) outline ⌝ }
     ensures { λ r. ⌜ r ≡ reaches address (now (f .entry)) ⌝ }
 {
     let tens = figures::figure(f[Lecom::TENS]) as u32;
-    if is_collective(f) {
+    if outline.collective {
         return (tens == 0) | (tens == address / TEN);
     }
     let ones = figures::figure(f[Lecom::ONES]) as u32;
     TEN * tens + ones == address
 }
 
-pub fn is_write(f: &[u8]) -> bool
-    requires { ⌜ shortest ≤ length (now f) ⌝ }
-    ensures { λ r. ⌜ r ≡ isWrite (now (f .entry)) ⌝ }
-{
-    f[Lecom::START] == Lecom::STX
-}
-
-// The place of the code's first character.
-pub fn code_start(f: &[u8]) -> usize
-    requires { ⌜ shortest ≤ length (now f) ⌝ }
-    ensures { λ r. ⌜ r ≡ codeStart (now (f .entry)) ⌝ }
-{
-    if is_write(f) {
-        return Lecom::START + 1;
-    }
-    Lecom::START
-}
-
-fn is_extended(f: &[u8]) -> bool
-    requires { ⌜ shortest ≤ length (now f) ⌝ }
-    ensures { λ r. ⌜ r ≡ isExtended (now (f .entry)) ⌝ }
-{
-    let at = code_start(f);
-    f[at] == Lecom::EXTENDED
-}
-
-// The place of the code's first hex character.
-fn hex_start(f: &[u8]) -> usize
-    requires { ⌜ shortest ≤ length (now f) ⌝ }
-    ensures { λ r. ⌜ r ≡ hexStart (now (f .entry)) ⌝ }
-{
-    let at = code_start(f);
-    if is_extended(f) {
-        return at + 1;
-    }
-    at
-}
-
-// The place after the code's last character.
-pub fn code_end(f: &[u8]) -> usize
-    requires { ⌜ shortest ≤ length (now f) ⌝ }
-    ensures { λ r. ⌜ r ≡ codeEnd (now (f .entry)) ⌝ }
-{
-    let at = hex_start(f);
-    if is_extended(f) {
-        return at + Lecom::EXTENDED_HEX;
-    }
-    at + Lecom::STANDARD_HEX
-}
-
-fn size_right(f: &[u8]) -> bool
-    requires { ⌜ shortest ≤ length (now f) ⌝ }
+fn size_right(f: &[u8], outline: Outline) -> bool
+    requires { ⌜ Outlines (now f) outline ⌝ }
     ensures { λ r. ⌜ r ≡ sizeRight (now (f .entry)) ⌝ }
 {
     let n = f.len();
-    let end = code_end(f);
-    if is_write(f) {
+    let end = outline.end;
+    if outline.write {
         return (end + Lecom::DATA_LEAST + Lecom::CLOSING <= n)
             & (n <= end + Lecom::DATA_MOST + Lecom::CLOSING);
     }
     n == end + 1
 }
 
-fn end_right(f: &[u8]) -> bool
-    requires { ⌜ shortest ≤ length (now f) ⌝ }
+fn end_right(f: &[u8], outline: Outline) -> bool
+    requires { ⌜ (shortest ≤ length (now f)) × Outlines (now f) outline ⌝ }
     ensures { λ r. ⌜ r ≡ endRight (now (f .entry)) ⌝ }
 {
     let n = f.len();
-    if is_write(f) {
+    if outline.write {
         return f[n - Lecom::CLOSING] == Lecom::ETX;
     }
     f[n - 1] == Lecom::ENQ
 }
 
-fn code_right(f: &[u8]) -> bool
-    requires { ⌜ (shortest ≤ length (now f)) × (codeEnd (now f) ≤ length (now f)) ⌝ }
+fn code_right(f: &[u8], outline: Outline) -> bool
+    requires { ⌜ (codeEnd (now f) ≤ length (now f)) × Outlines (now f) outline ⌝ }
     ensures { λ r. ⌜ r ≡ codeRight (now (f .entry)) ⌝ }
 {
-    let at = hex_start(f);
-    let end = code_end(f);
+    let at = outline.hex;
+    let end = outline.end;
     figures::all_figures(&f[at..end], UPPER_HEX)
 }
 
-fn bcc_right(f: &[u8]) -> bool
-    requires { ⌜ shortest ≤ length (now f) ⌝ }
+fn bcc_right(f: &[u8], outline: Outline) -> bool
+    requires { ⌜ (shortest ≤ length (now f)) × Outlines (now f) outline ⌝ }
     ensures { λ r. ⌜ r ≡ bccRight (now (f .entry)) ⌝ }
 {
-    if !is_write(f) {
+    if !outline.write {
         return true;
     }
-    let at = code_start(f);
+    let at = outline.start;
     let last = f.len() - 1;
     bcc(&f[at..last]) == f[last]
 }
@@ -167,128 +168,91 @@ fn pair_in(f: &[u8], at: usize) -> u32
     figures::pair_byte(f[at], f[at + 1], UPPER_HEX)
 }
 
-// The number of a code.
-fn code_number(f: &[u8]) -> u32
-    requires { ⌜ (shortest ≤ length (now f)) × (codeEnd (now f) ≤ length (now f)) ⌝ }
-    ensures { λ r. ⌜ r ≡ codeNumber (now (f .entry)) ⌝ }
+// What the frame's code names.
+fn named_in(f: &[u8], outline: Outline) -> Named
+    requires { ⌜ (codeEnd (now f) ≤ length (now f)) × Outlines (now f) outline ⌝ }
+    ensures { λ r. ⌜ r ≡ namedIn (now (f .entry)) ⌝ }
 {
-    let at = hex_start(f);
+    let at = outline.hex;
     let first = pair_in(f, at);
-    if is_extended(f) {
-        return BYTE_VALUES * first + pair_in(f, at + Lecom::STANDARD);
+    if !outline.extended {
+        return form::named_by(first);
     }
-    first
-}
-
-fn subcode_right(f: &[u8]) -> bool
-    requires { ⌜ (shortest ≤ length (now f)) × (codeEnd (now f) ≤ length (now f)) ⌝ }
-    ensures { λ r. ⌜ r ≡ subcodeRight (now (f .entry)) ⌝ }
-{
-    if is_extended(f) {
-        return pair_in(f, hex_start(f) + Lecom::SUBCODE) == 0;
+    if pair_in(f, at + Lecom::SUBCODE) != 0 {
+        return Named::Nothing;
     }
-    true
-}
-
-// Whether a number names a register, a probe, Lecom::ACTIVATE or Lecom::STORE.
-fn is_named(code: u32) -> bool
-    ensures { λ r. ⌜ r ≡ codeNamed code ⌝ }
-{
-    (code < Lecom::PROBES_END) | ((code == Lecom::ACTIVATE) | (code == Lecom::STORE))
-}
-
-// Whether the code of that number is known.
-fn code_known(f: &[u8], code: u32) -> bool
-    requires { ⌜ ((shortest ≤ length (now f)) × (codeEnd (now f) ≤ length (now f))) × (code ≡ codeNumber (now f)) ⌝ }
-    ensures { λ r. ⌜ r ≡ codeKnown (now (f .entry)) ⌝ }
-{
-    let subcode = subcode_right(f);
-    let named = is_named(code);
-    subcode & named
-}
-
-// Whether a code may be written.
-fn is_writable(code: u32) -> bool
-    ensures { λ r. ⌜ r ≡ writable code ⌝ }
-{
-    (code < Lecom::FIRST_PROBE) | (Lecom::PROBES_END <= code)
-}
-
-// Whether a code takes a value.
-fn is_taken(code: u32, value: u32) -> bool
-    ensures { λ r. ⌜ r ≡ takes code value ⌝ }
-{
-    (code < Lecom::FIRST_PROBE) | (value <= 1)
+    form::named_by(BYTE_VALUES * first + pair_in(f, at + Lecom::STANDARD))
 }
 
 // A write of what its data were read as.
-fn write_of(code: u32, parsed: Parsed) -> Order
-    ensures { λ r. ⌜ r ≡ unless (valueRight code parsed) valueOutside (Order.Write code (valueIn parsed)) ⌝ }
+fn write_of(named: Named, parsed: Parsed) -> Order
+    ensures { λ r. ⌜ r ≡ unless (valueRight named parsed) valueOutside (Order.Write named (valueIn parsed)) ⌝ }
 {
     let Parsed::Value(value) = parsed else {
         return Order::Refused(VALUE_OUTSIDE);
     };
-    if !is_taken(code, value) {
+    if !form::is_taken(named, value) {
         return Order::Refused(VALUE_OUTSIDE);
     }
-    Order::Write(code, value)
+    Order::Write(named, value)
 }
 
 // Read-only, data and the order itself, for a frame with a known code.
-fn order_in(f: &[u8], code: u32) -> Order
-    requires { ⌜ ((shortest ≤ length (now f)) × (sizeRight (now f) ≡ true)) × (code ≡ codeNumber (now f)) ⌝ }
+fn order_in(f: &[u8], outline: Outline, named: Named) -> Order
+    requires { ⌜ (sizeRight (now f) ≡ true) × (Outlines (now f) outline × (named ≡ namedIn (now f))) ⌝ }
     ensures { λ r. ⌜ r ≡ unless (writeRight (now (f .entry))) readOnly (unless (dataRight (now (f .entry))) valueOutside (orderIn (now (f .entry)))) ⌝ }
 {
-    if !is_write(f) {
-        return Order::Read(code);
+    if !outline.write {
+        return Order::Read(named);
     }
-    if !is_writable(code) {
+    if !form::is_writable(named) {
         return Order::Refused(READ_ONLY);
     }
-    let from = code_end(f);
+    let from = outline.end;
     let end = f.len() - Lecom::CLOSING;
-    write_of(code, figures::parse(&f[from..end], REGISTER_MOST))
+    write_of(named, figures::parse(&f[from..end], REGISTER_MOST))
 }
 
 // What a frame that reached the unit asks.
-fn heard_order(f: &[u8]) -> Order
-    requires { ⌜ shortest ≤ length (now f) ⌝ }
+fn heard_order(f: &[u8], outline: Outline) -> Order
+    requires { ⌜ (shortest ≤ length (now f)) × Outlines (now f) outline ⌝ }
     ensures { λ r. ⌜ r ≡ heard (now (f .entry)) ⌝ }
 {
-    if !size_right(f) {
+    if !size_right(f, outline) {
         return Order::Refused(FRAME_FORM);
     }
-    if !end_right(f) {
+    if !end_right(f, outline) {
         return Order::Refused(FRAME_FORM);
     }
-    if !code_right(f) {
+    if !code_right(f, outline) {
         return Order::Refused(FRAME_FORM);
     }
-    if !bcc_right(f) {
+    if !bcc_right(f, outline) {
         return Order::Refused(CHECK_CHARACTER);
     }
-    let code = code_number(f);
-    if !code_known(f, code) {
+    let named = named_in(f, outline);
+    if !form::is_known(named) {
         return Order::Refused(RANGE_UNKNOWN);
     }
-    order_in(f, code)
+    order_in(f, outline, named)
 }
 
-// What the frame f asks of the unit at an address.
-pub fn order_of(address: u32, f: &[u8]) -> Order
+// What the frame f, of this outline, asks of the unit at an address.
+pub fn order_of(address: u32, f: &[u8], outline: Outline) -> Order
+    requires { ⌜ Outlines (now f) outline ⌝ }
     ensures { λ r. ⌜ r ≡ asked address (now (f .entry)) ⌝ }
 {
     if !Lecom::fits(f.len()) {
-        return Order::Unheard(FRAME_FORM);
+        return Order::Silent(FRAME_FORM);
     }
     if f[0] != Lecom::EOT {
-        return Order::Unheard(FRAME_FORM);
+        return Order::Silent(FRAME_FORM);
     }
     if !figures::all_figures(&f[Lecom::TENS..Lecom::START], DECIMAL) {
-        return Order::Unheard(FRAME_FORM);
+        return Order::Silent(FRAME_FORM);
     }
-    if !is_reached(address, f) {
-        return Order::Unheard(FOREIGN_ADDRESS);
+    if !is_reached(address, f, outline) {
+        return Order::Silent(FOREIGN_ADDRESS);
     }
-    heard_order(f)
+    heard_order(f, outline)
 }

@@ -5,6 +5,7 @@ mod frame;
 
 use card::Outcome;
 use card::ROOM_LEAST;
+use card::layout::LECOM_ADDRESS;
 use card::numbers::ANSWERED;
 ghost use lib.ListN.{length};
 ghost use Rattle.card.specs.Layout.{cardOf};
@@ -22,5 +23,7 @@ pub fn lecom(words: &mut [u32], memory: &[u8], pending: &[u8], f: &[u8], out: &m
     if number != ANSWERED {
         return Outcome { number, len: 0 };
     }
-    answer::obey(words, memory, f, out)
+    let outline = frame::outline_of(f);
+    let order = frame::order_of(words[LECOM_ADDRESS], f, outline);
+    answer::obey(words, memory, f, outline, out, order)
 }

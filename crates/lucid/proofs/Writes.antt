@@ -49,26 +49,23 @@ unfolding joined
 joined-more a b (Held d) = ap Held (append-assoc a b d)
 joined-more a b Failed = refl
 
-module _ (value : ℕ → Values) (channel left : ℕ) (h : channel < channels) (held : List ℕ) where
-  -- a channel that is named and has a value
-  pub group-named : (bytes : List ℕ) → left % 2 ≡ 1 → value channel ≡ Held bytes
-      → joined (Held (held ++ bytes)) (group value (channelsLeft (channel + 1) (left / 2))) ≡ joined (Held held) (group value (channelsLeft channel left))
-  unfolding group
-  group-named bytes n e = rw (channels-named channel left h n, e) (joined-more held bytes (group value (channelsLeft (channel + 1) (left / 2))))
-
-  -- its bytes were put after those held
-  pub group-grew : (values values′ bytes : List ℕ) (n len : ℕ) → held ≡ take n values → left % 2 ≡ 1 → value channel ≡ Held bytes → Grew bytes values n len values′
+module _ (value : ℕ → Values) (channel left : ℕ) (h : channel < channels) where
+  -- a channel that is named, and its value put after those held
+  pub group-grew : (values values′ bytes : List ℕ) (n len : ℕ) → left % 2 ≡ 1 → value channel ≡ Held bytes → Grew bytes values n len values′
       → joined (Held (take len values′)) (group value (channelsLeft (channel + 1) (left / 2))) ≡ joined (Held (take n values)) (group value (channelsLeft channel left))
-  group-grew values values′ bytes n len k e i g = rw (g .held, ← k) (group-named bytes e i)
+  unfolding group
+  group-grew values values′ bytes n len e i g =
+      rw (g .held, channels-named channel left h e, i) (joined-more (take n values) bytes (group value (channelsLeft (channel + 1) (left / 2))))
 
   -- one that is not named
-  pub group-passed : (left % 2 ≡ 1 → ⊥) → joined (Held held) (group value (channelsLeft (channel + 1) (left / 2))) ≡ joined (Held held) (group value (channelsLeft channel left))
-  group-passed n = rw (channels-passed channel left h n)
+  pub group-passed : (held : List ℕ) → (left % 2 ≡ 1 → ⊥)
+      → joined (Held held) (group value (channelsLeft (channel + 1) (left / 2))) ≡ joined (Held held) (group value (channelsLeft channel left))
+  group-passed held n = rw (channels-passed channel left h n)
 
   -- one whose probe failed
-  pub group-failed : left % 2 ≡ 1 → value channel ≡ Failed → joined (Held held) (group value (channelsLeft channel left)) ≡ Failed
+  pub group-failed : (held : List ℕ) → left % 2 ≡ 1 → value channel ≡ Failed → joined (Held held) (group value (channelsLeft channel left)) ≡ Failed
   unfolding group joined
-  group-failed n e = rw (channels-named channel left h n, e)
+  group-failed held n e = rw (channels-named channel left h n, e)
 
 -- after the last channel
 pub group-done : (value : ℕ → Values) (channel left : ℕ) (held : List ℕ) → channels ≤ channel → joined (Held held) (group value (channelsLeft channel left)) ≡ Held held

@@ -67,10 +67,6 @@ told number status bytes = record { number = number; bytes = status ∷ length b
 abbrev pub refused : ℕ → ℕ → Answer
 refused number status = told number status []
 
--- a refusal with no byte on the wire
-abbrev pub silence : ℕ → Answer
-silence number = record { number = number; bytes = [] }
-
 -- a command that was done and gives no data
 abbrev pub done : Answer
 done = told answered ok []
@@ -100,7 +96,7 @@ reset channel saved ws = stored (parametersEach * channel + 1) saved floorDefaul
 
 -- what the card does with an order: what it answers, and the words that it leaves
 unfoldable pub obeyed : List ℕ → List ℕ → List ℕ → Order → WordsReply
-obeyed ws memory f (Silent number) = leaving ws (silence number)
+obeyed ws memory f (Silent number) = record { number = number; bytes = []; words = ws }
 obeyed ws memory f (Refused number status) = leaving ws (refused number status)
 obeyed ws memory f (GetIo valueType mask) = leaving ws (read (group (valueOf ws memory valueType) (channelsOf mask)))
 obeyed ws memory f (SetIo mask) = leaving (demanded (channelsOf mask) f dataAt ws) done

@@ -1,8 +1,10 @@
 -- `figures::put_pair` meets its contract: two stores are a list of two put there. Assumes nothing.
 use lib.ListN.{length-set}
+use mathlib.Core.List.{[], _∷_}
 use native.Mathlib.Omega.{arith}
+use native.Mathlib.Numerals.{add-one}
+use Rattle.wire.proofs.Buffers.{put-sets}
 use Rattle.figures.specs.Figure.{pairOf}
-use Rattle.figures.proofs.Characters.{put-two}
 use borrow.Author.Needs.{needs}
 use Rattle.figures.proofs.put_pair.Statement.{statement}
 use Rattle.figures.proofs.put_pair.Tie as tie
@@ -29,7 +31,7 @@ returns : tie.Need-returns
 unfolding pairOf
 returns c =
     let a = c .before .before .before .args in
-    rw (c .before .figure-char .ensures, c .figure-char2 .ensures) (put-two (a .out .now) (a .at) _ _ (search needs))
+    rw (c .before .figure-char .ensures, c .figure-char2 .ensures) (rw add-one (put-sets (_ ∷ _ ∷ []) (a .out .now) (a .at) (search needs)))
 
 pub put-pair-spec : {M : Type 1} → statement M
 put-pair-spec =

@@ -1,16 +1,12 @@
 -- `lecom::answer::acknowledge` meets its contract, test by test. Assumes nothing.
-use Rattle.wire.proofs.Cases.{told-true, told-false}
 use Rattle.card.proofs.Replies.{wrote-one}
 use Rattle.lecom.proofs.Writes.{done-quiet, done-sent}
 use borrow.Author.Needs.{needs}
 use Rattle.lecom.proofs.answer.acknowledge.Statement.{statement}
 use Rattle.lecom.proofs.answer.acknowledge.Tie as tie
 
-is-collective-requires : tie.Need-is-collective-requires
-is-collective-requires c κs = search needs
-
 returns : tie.Need-returns
-returns c = done-quiet _ _ _ (told-true (c .before .is-collective .ensures) (c .if1 .taken))
+returns c = done-quiet _ _ _ (c .if1 .taken)
 
 slice-write-out : tie.Need-slice-write-out
 slice-write-out c = search needs
@@ -19,8 +15,7 @@ same-length : tie.Need-same-length
 same-length c = search needs
 
 returns-2 : tie.Need-returns-2
-returns-2 c = done-sent _ _ _ (told-false (c .before .is-collective .ensures) (c .if1 .left)) (wrote-one 6 (c .before .before .before .before .args .out .now) (search needs))
+returns-2 c = done-sent _ _ _ (c .if1 .left) (wrote-one 6 (c .before .args .out .now) (search needs))
 
 pub acknowledge-spec : {M : Type 1} → statement M
-acknowledge-spec =
-    tie.close (tie.spec is-collective-requires returns slice-write-out same-length returns-2)
+acknowledge-spec = tie.close (tie.spec returns slice-write-out same-length returns-2)

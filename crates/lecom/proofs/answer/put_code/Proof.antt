@@ -1,35 +1,29 @@
 -- `lecom::answer::put_code` meets its contract, piece by piece. Assumes nothing.
 use lib.ListN.{length-set, length-take, length-drop}
 use native.Mathlib.Omega.{arith}
+use Rattle.lecom.proofs.Frames.{bounds}
 use Rattle.lecom.proofs.Writes.{wrote-code}
-use Rattle.lecom.proofs.Places.{placed}
 use borrow.Author.Needs.{needs}
 use Rattle.lecom.proofs.answer.put_code.Statement.{statement}
 use Rattle.lecom.proofs.answer.put_code.Tie as tie
-
-code-start-requires : tie.Need-code-start-requires
-code-start-requires c κs = search needs
-
-code-end-requires : tie.Need-code-end-requires
-code-end-requires c κs = search needs
 
 slice-write-out : tie.Need-slice-write-out
 slice-write-out c = search needs
 
 sub-copy : tie.Need-sub-copy
-sub-copy c = omega (arith, placed (c .before .before .before .before .args .f .now))
+sub-copy c = omega (arith, bounds (c .before .before .args .f .now))
 
 part-copy-start : tie.Need-part-copy-start
-part-copy-start c = omega (arith, placed (c .before .before .before .before .args .f .now))
+part-copy-start c = omega (arith, bounds (c .before .before .args .f .now))
 
 part-copy-end : tie.Need-part-copy-end
 part-copy-end c = search needs
 
 copy-requires : tie.Need-copy-requires
-copy-requires c κs = simp (length-set, length-take, length-drop) (omega (arith, placed (c .before .before .before .before .before .before .args .f .now)))
+copy-requires c κs = simp (length-set, length-take, length-drop) (omega (arith, bounds (c .before .before .before .before .args .f .now)))
 
 sub-result : tie.Need-sub-result
-sub-result c = omega (arith, placed (c .before .before .before .before .before .before .before .before .before .args .f .now))
+sub-result c = omega (arith, bounds (c .before .before .before .before .before .before .before .args .f .now))
 
 add-result : tie.Need-add-result
 add-result c = search needs
@@ -38,14 +32,14 @@ same-length : tie.Need-same-length
 same-length c = rw (c .before .before .copy .kept .1 .0) (simp length-set)
 
 returns : tie.Need-returns
-returns c = wrote-code _ _ _ _ _ (c .before .before .before .before .before .before .code-start .ensures) (c .before .before .before .before .before .code-end .ensures) (c .before .before .before .before .before .before .before .before .before .pre .0 .1) (search needs) (c .before .before .copy .ensures)
+returns c =
+    let start = c .before .before .before .before .before .before .before in
+    wrote-code _ _ _ _ _ (start .pre .0 .1 .starts) (start .pre .0 .1 .ends) (start .pre .0 .0) (search needs) (c .before .before .copy .ensures)
 
 pub put-code-spec : {M : Type 1} → statement M
 put-code-spec =
     tie.close
     (tie.spec
-    code-start-requires
-    code-end-requires
     slice-write-out
     sub-copy
     part-copy-start

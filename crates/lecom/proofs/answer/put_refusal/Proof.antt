@@ -9,18 +9,17 @@ use borrow.Author.Needs.{needs}
 use Rattle.lecom.proofs.answer.put_refusal.Statement.{statement}
 use Rattle.lecom.proofs.answer.put_refusal.Tie as tie
 
-is-write-requires : tie.Need-is-write-requires
-is-write-requires c κs = search needs
-
 put-unknown-requires : tie.Need-put-unknown-requires
-put-unknown-requires c κs = ((search needs, c .before .before .before .before .before .pre .0 .1 (eqb-true _ 6 (and-true _ _ (c .before .if1 .taken) .0))), search needs)
+put-unknown-requires c κs = ((c .before .before .before .before .before .pre .0 .0 (eqb-true _ 6 (and-true _ _ (c .before .if1 .taken) .0)), search needs), search needs)
 
 same-length : tie.Need-same-length
 same-length c = search needs
 
 returns : tie.Need-returns
 unfolding refusalBytes
-returns c = wrote-as _ _ (yes _ _ _ _ (rw (← (c .before .before .before .before .before .is-write .ensures)) (c .before .before .before .before .if1 .taken)) refl) (c .before .before .put-unknown .ensures)
+returns c =
+    let tested = c .before .before .before .before in
+    wrote-as _ _ (yes _ _ _ _ (rw (← (tested .before .before .before .before .pre .0 .1 .writes)) (tested .if1 .taken)) refl) (c .before .before .put-unknown .ensures)
 
 slice-write-out : tie.Need-slice-write-out
 slice-write-out c = search needs
@@ -30,13 +29,14 @@ same-length-2 c = search needs
 
 returns-2 : tie.Need-returns-2
 unfolding refusalBytes
-returns-2 c = wrote-as _ _ (no _ _ _ _ (rw (← (c .before .is-write .ensures)) (c .if1 .left)) refl) (wrote-one 21 (c .before .before .before .before .args .out .now) (search needs))
+returns-2 c =
+    let start = c .before .before .before .before in
+    wrote-as _ _ (no _ _ _ _ (rw (← (start .pre .0 .1 .writes)) (c .if1 .left)) refl) (wrote-one 21 (start .args .out .now) (search needs))
 
 pub put-refusal-spec : {M : Type 1} → statement M
 put-refusal-spec =
     tie.close
     (tie.spec
-    is-write-requires
     put-unknown-requires
     same-length
     returns

@@ -11,17 +11,17 @@ put-code-requires : tie.Need-put-code-requires
 put-code-requires c κs = search needs
 
 slice-write-out : tie.Need-slice-write-out
-slice-write-out c = omega (arith, code-most (c .before .before .before .before .before .before .args .f .now) (c .before .before .before .before .before .before .pre .0 .1), c .before .before .put-code .ensures .measured, c .before .before .put-code .kept .1 .0)
+slice-write-out c = omega (arith, code-most (c .before .before .before .before .before .before .args .f .now) (c .before .before .before .before .before .before .pre .0 .0), c .before .before .put-code .ensures .measured, c .before .before .put-code .kept .1 .1 .0)
 
 add-result : tie.Need-add-result
-add-result c = omega (arith, code-most (c .before .before .before .before .before .before .args .f .now) (c .before .before .before .before .before .before .pre .0 .1), c .before .before .put-code .ensures .measured, c .before .before .put-code .kept .1 .0)
+add-result c = omega (arith, code-most (c .before .before .before .before .before .before .args .f .now) (c .before .before .before .before .before .before .pre .0 .0), c .before .before .put-code .ensures .measured, c .before .before .put-code .kept .1 .1 .0)
 
 same-length : tie.Need-same-length
 same-length c = search needs
 
 returns : tie.Need-returns
 unfolding unknownBytes
-returns c = wrote-set _ _ (c .before .before .put-code .ensures) 4 (omega (arith, code-most (c .before .before .before .before .before .before .args .f .now) (c .before .before .before .before .before .before .pre .0 .1), c .before .before .put-code .ensures .measured, c .before .before .put-code .kept .1 .0))
+returns c = wrote-set _ _ (c .before .before .put-code .ensures) 4 (omega (arith, code-most (c .before .before .before .before .before .before .args .f .now) (c .before .before .before .before .before .before .pre .0 .0), c .before .before .put-code .ensures .measured, c .before .before .put-code .kept .1 .1 .0))
 
 pub put-unknown-spec : {M : Type 1} → statement M
 put-unknown-spec =

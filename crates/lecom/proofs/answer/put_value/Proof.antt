@@ -12,14 +12,14 @@ put-code-requires : tie.Need-put-code-requires
 put-code-requires c κs = search needs
 
 put-text-requires : tie.Need-put-text-requires
-put-text-requires c κs = omega (arith, code-most (c .before .before .before .before .before .before .before .args .f .now) (c .before .before .before .before .before .before .before .pre .0 .1), c .before .before .before .put-code .ensures .measured, c .before .before .before .put-code .kept .1 .0)
+put-text-requires c κs = omega (arith, code-most (c .before .before .before .before .before .before .before .args .f .now) (c .before .before .before .before .before .before .before .pre .0 .0), c .before .before .before .put-code .ensures .measured, c .before .before .before .put-code .kept .1 .1 .0)
 
 -- after STX and code there is room for the text, ETX and the BCC
 room : (c : tie.After-slice-known3) → (c .before .before .before .before .before .before .put-code .result + c .before .before .put-text .result + 2 ≤ length (c .before .before .put-text .last .0)) × (length (c .before .before .put-text .last .0) ≡ length (c .before .before .before .before .before .before .before .before .before .before .args .out .now))
 room c =
     let code = c .before .before .before .before .before .before .put-code in
     let text = c .before .before .put-text in
-    omega (arith, code-most (c .before .before .before .before .before .before .before .before .before .before .args .f .now) (c .before .before .before .before .before .before .before .before .before .before .pre .0 .1), code .ensures .measured, code .kept .1 .0, text-most _ (text .ensures .0), text .kept .0)
+    omega (arith, code-most (c .before .before .before .before .before .before .before .before .before .before .args .f .now) (c .before .before .before .before .before .before .before .before .before .before .pre .0 .0), code .ensures .measured, code .kept .1 .1 .0, text-most _ (text .ensures .0), text .kept .0)
 
 add-end : tie.Need-add-end
 add-end c = omega (arith, room c)

@@ -5,11 +5,8 @@ use borrow.Author.Needs.{needs}
 use Rattle.lecom.proofs.answer.refuse.Statement.{statement}
 use Rattle.lecom.proofs.answer.refuse.Tie as tie
 
-is-collective-requires : tie.Need-is-collective-requires
-is-collective-requires c κs = search needs
-
 returns : tie.Need-returns
-returns c = refused-quiet _ _ _ (told-true (c .before .is-collective .ensures) (c .if1 .taken))
+returns c = refused-quiet _ _ _ (told-true (c .before .before .before .pre .0 .1 .quiet) (c .if1 .taken))
 
 put-refusal-requires : tie.Need-put-refusal-requires
 put-refusal-requires c κs = search needs
@@ -18,8 +15,9 @@ same-length : tie.Need-same-length
 same-length c = search needs
 
 returns-2 : tie.Need-returns-2
-returns-2 c = refused-sent _ _ _ (told-false (c .before .before .before .before .before .is-collective .ensures) (c .before .before .before .before .if1 .left)) (c .before .before .put-refusal .ensures)
+returns-2 c =
+    let tested = c .before .before .before .before in
+    refused-sent _ _ _ (told-false (tested .before .before .before .pre .0 .1 .quiet) (tested .if1 .left)) (c .before .before .put-refusal .ensures)
 
 pub refuse-spec : {M : Type 1} → statement M
-refuse-spec =
-    tie.close (tie.spec is-collective-requires returns put-refusal-requires same-length returns-2)
+refuse-spec = tie.close (tie.spec returns put-refusal-requires same-length returns-2)

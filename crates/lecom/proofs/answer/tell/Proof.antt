@@ -5,11 +5,8 @@ use borrow.Author.Needs.{needs}
 use Rattle.lecom.proofs.answer.tell.Statement.{statement}
 use Rattle.lecom.proofs.answer.tell.Tie as tie
 
-is-collective-requires : tie.Need-is-collective-requires
-is-collective-requires c κs = search needs
-
 returns : tie.Need-returns
-returns c = done-quiet _ _ _ (told-true (c .before .is-collective .ensures) (c .if1 .taken))
+returns c = done-quiet _ _ _ (told-true (c .before .before .before .pre .0 .1 .quiet) (c .if1 .taken))
 
 put-value-requires : tie.Need-put-value-requires
 put-value-requires c κs = search needs
@@ -18,8 +15,9 @@ same-length : tie.Need-same-length
 same-length c = search needs
 
 returns-2 : tie.Need-returns-2
-returns-2 c = done-sent _ _ _ (told-false (c .before .before .before .before .before .is-collective .ensures) (c .before .before .before .before .if1 .left)) (c .before .before .put-value .ensures)
+returns-2 c =
+    let tested = c .before .before .before .before in
+    done-sent _ _ _ (told-false (tested .before .before .before .pre .0 .1 .quiet) (tested .if1 .left)) (c .before .before .put-value .ensures)
 
 pub tell-spec : {M : Type 1} → statement M
-tell-spec =
-    tie.close (tie.spec is-collective-requires returns put-value-requires same-length returns-2)
+tell-spec = tie.close (tie.spec returns put-value-requires same-length returns-2)

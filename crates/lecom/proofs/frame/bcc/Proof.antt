@@ -7,7 +7,7 @@ use borrow.Author.Needs.{needs}
 use lib.ListN.{length, drop}
 use lib.Seq.{drop-length}
 use Rattle.lecom.specs.Frame.{xorFrom, bccOf}
-use Rattle.lecom.proofs.Places.{xor-next}
+use Rattle.lecom.proofs.Frames.{xor-next}
 use Rattle.lecom.proofs.frame.bcc.Statement.{statement}
 use Rattle.lecom.proofs.frame.bcc.Tie as tie
 

@@ -1,30 +1,24 @@
 -- `lecom::frame::bcc_right` meets its contract, test by test. Assumes nothing.
 use Rattle.wire.proofs.Cases.{cases, yes, told-yes}
 use native.Mathlib.Omega.{arith}
-use Rattle.lecom.proofs.Places.{placed}
+use Rattle.lecom.proofs.Frames.{bounds}
 use Rattle.lecom.specs.Frame.{bccRight}
 use borrow.Author.Needs.{needs}
 use Rattle.lecom.proofs.frame.bcc_right.Statement.{statement}
 use Rattle.lecom.proofs.frame.bcc_right.Tie as tie
 
-is-write-requires : tie.Need-is-write-requires
-is-write-requires c κs = search needs
-
 returns : tie.Need-returns
 unfolding bccRight
 returns c = search cases
-
-code-start-requires : tie.Need-code-start-requires
-code-start-requires c κs = search needs
 
 sub-last : tie.Need-sub-last
 sub-last c = search needs
 
 sub-bcc : tie.Need-sub-bcc
-sub-bcc c = omega (arith, placed (c .before .before .before .before .args .f .now))
+sub-bcc c = omega (arith, bounds (c .before .before .before .args .f .now))
 
 part-bcc-start : tie.Need-part-bcc-start
-part-bcc-start c = omega (arith, placed (c .before .before .before .before .args .f .now))
+part-bcc-start c = omega (arith, bounds (c .before .before .before .args .f .now))
 
 part-bcc-end : tie.Need-part-bcc-end
 part-bcc-end c = search needs
@@ -37,15 +31,15 @@ shared-slice-read-result c = search needs
 
 returns-2 : tie.Need-returns-2
 unfolding bccRight
-returns-2 c = yes _ _ _ _ (told-yes (c .before .before .before .before .before .is-write .ensures) (c .before .before .before .before .if1 .left)) (rw (c .before .bcc .ensures, c .before .before .before .code-start .ensures))
+returns-2 c =
+    let start = c .before .before .before .before .before .before in
+    yes _ _ _ _ (told-yes (start .pre .1 .writes) (c .before .before .before .if1 .left)) (rw (c .before .bcc .ensures, start .pre .1 .starts))
 
 pub bcc-right-spec : {M : Type 1} → statement M
 bcc-right-spec =
     tie.close
     (tie.spec
-    is-write-requires
     returns
-    code-start-requires
     sub-last
     sub-bcc
     part-bcc-start

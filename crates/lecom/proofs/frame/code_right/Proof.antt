@@ -1,22 +1,16 @@
 -- `lecom::frame::code_right` meets its contract, its definition. Assumes nothing.
 use native.Mathlib.Omega.{arith}
-use Rattle.lecom.proofs.Places.{placed}
+use Rattle.lecom.proofs.Frames.{bounds}
 use Rattle.lecom.specs.Frame.{codeRight}
 use borrow.Author.Needs.{needs}
 use Rattle.lecom.proofs.frame.code_right.Statement.{statement}
 use Rattle.lecom.proofs.frame.code_right.Tie as tie
 
-hex-start-requires : tie.Need-hex-start-requires
-hex-start-requires c κs = search needs
-
-code-end-requires : tie.Need-code-end-requires
-code-end-requires c κs = search needs
-
 sub-all-figures : tie.Need-sub-all-figures
-sub-all-figures c = omega (arith, placed (c .before .before .before .args .f .now))
+sub-all-figures c = omega (arith, bounds (c .before .args .f .now))
 
 part-all-figures-start : tie.Need-part-all-figures-start
-part-all-figures-start c = omega (arith, placed (c .before .before .before .args .f .now))
+part-all-figures-start c = omega (arith, bounds (c .before .args .f .now))
 
 part-all-figures-end : tie.Need-part-all-figures-end
 part-all-figures-end c = search needs
@@ -26,16 +20,11 @@ all-figures-requires c κs = search needs
 
 returns : tie.Need-returns
 unfolding codeRight
-returns c = rw (← (c .before .before .before .hex-start .ensures), ← (c .before .before .code-end .ensures)) (c .all-figures .ensures)
+returns c =
+    let start = c .before .before .before in
+    rw (← (start .pre .1 .hexed), ← (start .pre .1 .ends)) (c .all-figures .ensures)
 
 pub code-right-spec : {M : Type 1} → statement M
 code-right-spec =
     tie.close
-    (tie.spec
-    hex-start-requires
-    code-end-requires
-    sub-all-figures
-    part-all-figures-start
-    part-all-figures-end
-    all-figures-requires
-    returns)
+    (tie.spec sub-all-figures part-all-figures-start part-all-figures-end all-figures-requires returns)

@@ -5,9 +5,6 @@ use borrow.Author.Needs.{needs}
 use Rattle.lecom.proofs.frame.end_right.Statement.{statement}
 use Rattle.lecom.proofs.frame.end_right.Tie as tie
 
-is-write-requires : tie.Need-is-write-requires
-is-write-requires c κs = search needs
-
 sub-result : tie.Need-sub-result
 sub-result c = search needs
 
@@ -32,7 +29,6 @@ pub end-right-spec : {M : Type 1} → statement M
 end-right-spec =
     tie.close
     (tie.spec
-    is-write-requires
     sub-result
     shared-slice-read-result
     returns

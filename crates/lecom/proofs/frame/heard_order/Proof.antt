@@ -1,13 +1,14 @@
 -- `lecom::frame::heard_order` meets its contract, test by test. Assumes nothing.
 use Rattle.wire.proofs.Cases.{cases, yes, no, told-yes, told-no}
 use native.Mathlib.Omega.{arith}
-use mathlib.Core.Path.{_≡_}
+use mathlib.Core.Path.{_≡_, ap, _∙_}
 use mathlib.Core.Bool.{true}
 use Prim.Native.Nat.{_≤_}
 use lib.ListN.{length}
-use Rattle.lecom.proofs.Places.{size-holds}
-use Rattle.lecom.specs.Frame.{sizeRight, codeEnd}
+use Rattle.lecom.specs.Form.{known}
+use Rattle.lecom.specs.Frame.{sizeRight, codeEnd, codeKnown}
 use Rattle.lecom.specs.Stages.{heard}
+use Rattle.lecom.proofs.Frames.{size-holds}
 use borrow.Author.Needs.{needs}
 use Rattle.lecom.proofs.frame.heard_order.Statement.{statement}
 use Rattle.lecom.proofs.frame.heard_order.Tie as tie
@@ -34,7 +35,7 @@ unfolding heard
 returns-2 c = search cases
 
 code-right-requires : tie.Need-code-right-requires
-code-right-requires c κs = (search needs, ended (c .before .before))
+code-right-requires c κs = (ended (c .before .before), search needs)
 
 returns-3 : tie.Need-returns-3
 unfolding heard
@@ -47,22 +48,27 @@ returns-4 : tie.Need-returns-4
 unfolding heard
 returns-4 c = search cases
 
-code-number-requires : tie.Need-code-number-requires
-code-number-requires c κs = (search needs, ended (c .before .before .before .before .before .before))
+named-in-requires : tie.Need-named-in-requires
+named-in-requires c κs = (ended (c .before .before .before .before .before .before), search needs)
 
-code-known-requires : tie.Need-code-known-requires
-code-known-requires c κs = ((search needs, ended (c .before .before .before .before .before .before .before)), c .code-number .ensures)
+is-known-requires : tie.Need-is-known-requires
+is-known-requires c κs = search needs
+
+-- the code is known as what it names is
+is-known-says : (c : tie.After-is-known) → c .is-known .result ≡ codeKnown (c .before .before .before .before .before .before .before .before .before .before .before .args .f .now)
+unfolding codeKnown
+is-known-says c = c .is-known .ensures ∙ ap known (c .before .named-in .ensures)
 
 returns-5 : tie.Need-returns-5
 unfolding heard
-returns-5 c = search (yes, no, told-yes, told-no) depth 12
+returns-5 c = let says = is-known-says (c .before) in search (yes, no, told-yes, told-no) depth 12
 
 order-in-requires : tie.Need-order-in-requires
-order-in-requires c κs = ((search needs, sized (c .before .before .before .before .before .before .before .before .before)), c .before .before .code-number .ensures)
+order-in-requires c κs = (sized (c .before .before .before .before .before .before .before .before .before), (search needs, c .before .before .named-in .ensures))
 
 returns-6 : tie.Need-returns-6
 unfolding heard
-returns-6 c = search (yes, no, told-yes, told-no) depth 12
+returns-6 c = let says = is-known-says (c .before .before) in search (yes, no, told-yes, told-no) depth 12
 
 pub heard-order-spec : {M : Type 1} → statement M
 heard-order-spec =
@@ -76,8 +82,8 @@ heard-order-spec =
     returns-3
     bcc-right-requires
     returns-4
-    code-number-requires
-    code-known-requires
+    named-in-requires
+    is-known-requires
     returns-5
     order-in-requires
     returns-6)

@@ -14,12 +14,9 @@ figure-requires c κs = search needs
 cast-tens : tie.Need-cast-tens
 cast-tens c = search needs
 
-is-collective-requires : tie.Need-is-collective-requires
-is-collective-requires c κs = search needs
-
 returns : tie.Need-returns
 unfolding reaches tensIn
-returns c = yes _ _ _ _ (told-true (c .before .is-collective .ensures) (c .if1 .taken)) (rw (c .before .before .figure .ensures))
+returns c = yes _ _ _ _ (told-true (c .before .before .before .before .pre .1 .quiet) (c .if1 .taken)) (rw (c .before .figure .ensures))
 
 shared-slice-read-figure-2 : tie.Need-shared-slice-read-figure-2
 shared-slice-read-figure-2 c = search needs
@@ -38,7 +35,9 @@ add-result c = search needs
 
 returns-2 : tie.Need-returns-2
 unfolding reaches tensIn onesIn
-returns-2 c = no _ _ _ _ (told-false (c .before .before .before .is-collective .ensures) (c .before .before .if1 .left)) (rw (c .before .before .before .before .figure .ensures, c .figure2 .ensures))
+returns-2 c =
+    no _ _ _ _ (told-false (c .before .before .before .before .before .before .pre .1 .quiet) (c .before .before .if1 .left))
+    (rw (c .before .before .before .figure .ensures, c .figure2 .ensures))
 
 pub is-reached-spec : {M : Type 1} → statement M
 is-reached-spec =
@@ -47,7 +46,6 @@ is-reached-spec =
     shared-slice-read-figure
     figure-requires
     cast-tens
-    is-collective-requires
     returns
     shared-slice-read-figure-2
     figure-requires-2

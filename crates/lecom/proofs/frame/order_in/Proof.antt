@@ -5,36 +5,36 @@ use Prim.Native.Nat.{_+_, _≤_}
 use lib.ListN.{length, length-take, length-drop}
 use mathlib.Core.Path.{ap}
 use native.Mathlib.Omega.{arith}
-use Rattle.lecom.proofs.Places.{write-holds}
 use Rattle.wire.specs.Choose.{choose}
 use Rattle.lecom.specs.Frame.{writeRight, dataOf, dataRead, dataRight, orderIn}
+use Rattle.lecom.proofs.Frames.{write-holds}
 use borrow.Author.Needs.{needs}
 use Rattle.lecom.proofs.frame.order_in.Statement.{statement}
 use Rattle.lecom.proofs.frame.order_in.Tie as tie
 
-is-write-requires : tie.Need-is-write-requires
-is-write-requires c κs = search needs
-
 returns : tie.Need-returns
 unfolding writeRight dataRight orderIn choose
-returns c = simp (told-no (c .before .is-write .ensures) (c .if1 .taken)) (ap Read (c .before .before .before .pre .1))
+returns c =
+    let start = c .before .before .before in
+    simp (told-no (start .pre .1 .0 .writes) (c .if1 .taken)) (ap Read (start .pre .1 .1))
 
 is-writable-requires : tie.Need-is-writable-requires
 is-writable-requires c κs = search needs
 
 returns-2 : tie.Need-returns-2
 unfolding writeRight choose
-returns-2 c = simp (told-yes (c .before .before .before .is-write .ensures) (c .before .before .if1 .left), ← (c .before .before .before .before .before .pre .1), told-no (c .before .is-writable .ensures) (c .if2 .taken))
-
-code-end-requires : tie.Need-code-end-requires
-code-end-requires c κs = search needs
-
-sub-end : tie.Need-sub-end
-sub-end c = search needs
+returns-2 c =
+    let start = c .before .before .before .before .before in
+    simp (told-yes (start .pre .1 .0 .writes) (c .before .before .if1 .left), ← (start .pre .1 .1), told-no (c .before .is-writable .ensures) (c .if2 .taken))
 
 -- the data stand between code and ETX, and are at most twelve characters
-holds : (c : tie.After-code-end) → (c .code-end .result + 3 ≤ length (c .before .before .before .before .before .before .args .f .now)) × (length (c .before .before .before .before .before .before .args .f .now) ≤ c .code-end .result + 14)
-holds c = omega (arith, write-holds (c .before .before .before .before .before .before .args .f .now) (told-yes (c .before .before .before .before .is-write .ensures) (c .before .before .before .if1 .left)) (c .before .before .before .before .before .before .pre .0 .1))
+holds : (c : tie.Else2) → (c .before .before .before .before .before .args .outline .end + 3 ≤ length (c .before .before .before .before .before .args .f .now)) × (length (c .before .before .before .before .before .args .f .now) ≤ c .before .before .before .before .before .args .outline .end + 14)
+holds c =
+    let start = c .before .before .before .before .before in
+    omega (arith, start .pre .1 .0 .ends, write-holds (start .args .f .now) (told-yes (start .pre .1 .0 .writes) (c .before .before .if1 .left)) (start .pre .0))
+
+sub-end : tie.Need-sub-end
+sub-end c = omega (arith, holds c)
 
 sub-parse : tie.Need-sub-parse
 sub-parse c = omega (arith, holds c)
@@ -54,19 +54,18 @@ write-of-requires c κs = search needs
 returns-3 : tie.Need-returns-3
 unfolding writeRight dataRight orderIn dataRead dataOf choose
 returns-3 c =
-    let write = told-yes (c .before .before .before .before .before .before .before .is-write .ensures) (c .before .before .before .before .before .before .if1 .left) in
-    let allowed = told-yes (c .before .before .before .before .before .is-writable .ensures) (c .before .before .before .before .if2 .left) in
-    simp (write, ← (c .before .before .before .before .before .before .before .before .before .pre .1), ← (c .before .before .before .code-end .ensures), allowed, ← (c .before .parse .ensures)) (c .write-of .ensures)
+    let start = c .before .before .before .before .before .before .before .before in
+    let write = told-yes (start .pre .1 .0 .writes) (c .before .before .before .before .before .if1 .left) in
+    let allowed = told-yes (c .before .before .before .before .is-writable .ensures) (c .before .before .before .if2 .left) in
+    simp (write, ← (start .pre .1 .1), ← (start .pre .1 .0 .ends), allowed, ← (c .before .parse .ensures)) (c .write-of .ensures)
 
 pub order-in-spec : {M : Type 1} → statement M
 order-in-spec =
     tie.close
     (tie.spec
-    is-write-requires
     returns
     is-writable-requires
     returns-2
-    code-end-requires
     sub-end
     sub-parse
     part-parse-start

@@ -1,8 +1,10 @@
 -- `lecom::frame::order_of` meets its contract, test by test. Assumes nothing.
 use Rattle.wire.proofs.Cases.{cases, told-yes}
+use Rattle.wire.proofs.Lengths.{between-facts}
+use Prim.Native.Nat.{_≤_}
 use lib.ListN.{length}
 use native.Mathlib.Omega.{arith}
-use Rattle.lecom.proofs.Places.{length-facts}
+use Rattle.lecom.specs.Form.{shortest, longest}
 use Rattle.lecom.specs.Frame.{asked, figuresRight}
 use Rattle.lecom.specs.Stages.{heard}
 use borrow.Author.Needs.{needs}
@@ -16,8 +18,12 @@ returns : tie.Need-returns
 unfolding asked figuresRight
 returns c = search cases
 
+-- the frame's length is right
+long : (c : tie.Else1) → shortest ≤ length (c .before .before .before .args .f .now)
+long c = between-facts shortest longest (length (c .before .before .before .args .f .now)) (told-yes (c .before .fits2 .ensures) (c .if1 .left)) .0
+
 shared-slice-read-if2 : tie.Need-shared-slice-read-if2
-shared-slice-read-if2 c = omega (arith, length-facts (length (c .before .before .before .before .args .f .now)) (told-yes (c .before .before .fits2 .ensures) (c .before .if1 .left)))
+shared-slice-read-if2 c = omega (arith, long (c .before))
 
 returns-2 : tie.Need-returns-2
 unfolding asked figuresRight
@@ -30,7 +36,7 @@ part-all-figures-start : tie.Need-part-all-figures-start
 part-all-figures-start c = search needs
 
 part-all-figures-end : tie.Need-part-all-figures-end
-part-all-figures-end c = omega (arith, length-facts (length (c .before .before .before .before .before .args .f .now)) (told-yes (c .before .before .before .fits2 .ensures) (c .before .before .if1 .left)))
+part-all-figures-end c = omega (arith, long (c .before .before))
 
 all-figures-requires : tie.Need-all-figures-requires
 all-figures-requires c κs = search needs
@@ -40,14 +46,14 @@ unfolding asked figuresRight
 returns-3 c = search cases
 
 is-reached-requires : tie.Need-is-reached-requires
-is-reached-requires c κs = omega (arith, length-facts (length (c .before .before .before .before .before .before .before .before .args .f .now)) (told-yes (c .before .before .before .before .before .before .fits2 .ensures) (c .before .before .before .before .before .if1 .left)))
+is-reached-requires c κs = (long (c .before .before .before .before .before), search needs)
 
 returns-4 : tie.Need-returns-4
 unfolding asked figuresRight
 returns-4 c = search cases
 
 heard-order-requires : tie.Need-heard-order-requires
-heard-order-requires c κs = omega (arith, length-facts (length (c .before .before .before .before .before .before .before .before .before .before .args .f .now)) (told-yes (c .before .before .before .before .before .before .before .before .fits2 .ensures) (c .before .before .before .before .before .before .before .if1 .left)))
+heard-order-requires c κs = (long (c .before .before .before .before .before .before .before), search needs)
 
 returns-5 : tie.Need-returns-5
 unfolding asked figuresRight heard

@@ -95,13 +95,13 @@ loop-again c = let l = c .before .before .loop in
     (λ w.
     let g = w .4 .ensures in
     let e = value-demand (a .words .now) (a .memory .now) (a .value-type) (l .channel) (w .1 .taken) in
-    (omega arith, (l .inv .1 .0, (rw (w .6) (w .4 .kept .1 .1 .0 ∙ l .inv .1 .1 .0), (omega (arith, w .7, simp length-little at (g .counted)), rw (w .6, w .7) (group-grew value (l .channel) (l .left) h _ (l .values) _ _ (l .len) _ refl (w .0 .taken) e g ∙ l .inv .1 .1 .1 .1))))))
+    (omega arith, (l .inv .1 .0, (rw (w .6) (w .4 .kept .1 .1 .0 ∙ l .inv .1 .1 .0), (omega (arith, w .7, simp length-little at (g .counted)), rw (w .6, w .7) (group-grew value (l .channel) (l .left) h (l .values) _ _ (l .len) _ (w .0 .taken) e g ∙ l .inv .1 .1 .1 .1))))))
     (⊎-elim
     (λ w.
     let g = w .8 .ensures in
     let t = w .5 .given .0 .0 in
     let e = value-probe (a .words .now) (a .memory .now) (a .value-type) (l .channel) t (w .1 .left) (sym (w .3 .ensures) ∙ w .5 .given .1) in
-    (omega arith, (l .inv .1 .0, (rw (w .10) (w .8 .kept .1 .1 .0 ∙ l .inv .1 .1 .0), (omega (arith, w .11, g .counted, length-temperature (a .value-type) t), rw (w .10, w .11) (group-grew value (l .channel) (l .left) h _ (l .values) _ _ (l .len) _ refl (w .0 .taken) e g ∙ l .inv .1 .1 .1 .1))))))
+    (omega arith, (l .inv .1 .0, (rw (w .10) (w .8 .kept .1 .1 .0 ∙ l .inv .1 .1 .0), (omega (arith, w .11, g .counted, length-temperature (a .value-type) t), rw (w .10, w .11) (group-grew value (l .channel) (l .left) h (l .values) _ _ (l .len) _ (w .0 .taken) e g ∙ l .inv .1 .1 .1 .1))))))
     (λ w. (omega arith, (l .inv .1 .0, (rw (w .1) (l .inv .1 .1 .0), (omega (arith, w .2), rw (w .1, w .2) (group-passed value (l .channel) (l .left) h _ (w .0 .left) ∙ l .inv .1 .1 .1 .1)))))))
     (c .if1 .came)
 

@@ -1,0 +1,159 @@
+-- What is known of a frame: bounds of its places, and that what it asks is sound. Assumes nothing.
+use Prim.{tt}
+use Prim.Native.Nat.{ℕ, suc, _+_, _-_, _≤_}
+use mathlib.Core.Path.{_≡_}
+use mathlib.Core.Bool.{Bool, true, false, _&&_, not}
+use mathlib.Core.List.{List}
+use native.Mathlib.Omega.{arith}
+use borrow.Author.Tests.{le-leb, leb-true, eqb-true, ltb-false}
+use lib.Bits.{bitXor}
+use lib.Dec.{leb, ltb, eqb}
+use lib.ListN.{length, getD, drop}
+use lib.Seq.{drop-cons}
+use Rattle.wire.specs.Choose.{choose}
+use Rattle.wire.specs.Word.{minus}
+use Rattle.wire.proofs.Tests.{and-true, or-true-right}
+use Rattle.wire.proofs.Cases.{by-choice}
+use Rattle.figures.specs.Figure.{decimal, allFigures}
+use Rattle.figures.specs.Decimal.{valueOf}
+use Rattle.figures.specs.Signed.{minusChar, withSign, figuresOf, parsedOf}
+use Rattle.figures.specs.declared.Parsed.{Parsed}
+use Rattle.figures.proofs.Characters.{pair-at-most}
+use Rattle.card.specs.Numbers.{frameForm, checkCharacter, rangeUnknown, valueOutside, readOnly}
+use Rattle.card.specs.Fitness.{inSpan, registerMost}
+use Rattle.lecom.specs.Form.{lengthRight, standardHex, extendedHex, dataLeast, dataMost, closing, lastRegister, firstProbe, lastProbe, activate, store, namedBy}
+use Rattle.lecom.specs.Frame.{isWrite, codeAt, isExtended, hexAt, codeEnd, sizeRight, pairIn, xorFrom, codeNumber, subcodeRight, namedIn, dataOf, dataRead, valueIn, orderIn, asked, Has, Sound}
+use Rattle.lecom.specs.Stages.{heard}
+use Rattle.lecom.specs.declared.frame.Order.{Order}
+use Rattle.lecom.specs.declared.frame.Order.the-variants.{Silent, Refused}
+
+-- Places
+
+-- the places of a frame's code, in order
+pub record Bounds (f : List ℕ) : Type 0 where
+  pub code-at : codeAt f ≤ 4
+  pub hex-at : (codeAt f ≤ hexAt f) × (hexAt f ≤ codeAt f + 1)
+  pub code-end : (hexAt f + standardHex ≤ codeEnd f) × (codeEnd f ≤ hexAt f + extendedHex)
+
+pub bounds : (f : List ℕ) → Bounds f
+unfolding codeAt hexAt codeEnd
+bounds f =
+    record {
+      code-at = by-choice (λ (n : ℕ). n ≤ 4) (isWrite f) _ _ (λ _. omega arith) (λ _. omega arith);
+      hex-at = by-choice (λ (n : ℕ). (codeAt f ≤ n) × (n ≤ codeAt f + 1)) (isExtended f) _ _ (λ _. omega arith) (λ _. omega arith);
+      code-end = by-choice (λ (n : ℕ). (hexAt f + 2 ≤ n) × (n ≤ hexAt f + 6)) (isExtended f) _ _ (λ _. omega arith) (λ _. omega arith);
+    }
+
+-- an extended code has six hex characters
+pub extended-end : (f : List ℕ) → isExtended f ≡ true → codeEnd f ≡ hexAt f + extendedHex
+unfolding codeEnd choose
+extended-end f h = rw h
+
+-- two hex characters are a byte, or the mark for none
+pub pair-most : (f : List ℕ) (at : ℕ) → pairIn f at ≤ 256
+unfolding pairIn
+pair-most f at = pair-at-most 16 (getD f at 0) (getD f (at + 1) 0)
+
+-- a frame of the right size holds its whole code
+pub size-holds : (f : List ℕ) → sizeRight f ≡ true → codeEnd f + 1 ≤ length f
+unfolding sizeRight
+size-holds f =
+    by-choice (λ (t : Bool). t ≡ true → codeEnd f + 1 ≤ length f) (isWrite f) _ _
+    (λ _ h. omega (arith, leb-true (codeEnd f + dataLeast + closing) (length f) (and-true (leb (codeEnd f + dataLeast + closing) (length f)) _ h .0)))
+    (λ _ h. omega (arith, eqb-true (length f) (codeEnd f + 1) h))
+
+-- a write of the right size has its data between code and ETX
+pub write-holds : (f : List ℕ) → isWrite f ≡ true → sizeRight f ≡ true → (codeEnd f + dataLeast + closing ≤ length f) × (length f ≤ codeEnd f + dataMost + closing)
+unfolding sizeRight choose
+write-holds f w h =
+    let k : (leb (codeEnd f + dataLeast + closing) (length f) && leb (length f) (codeEnd f + dataMost + closing)) ≡ true = rw w at h in
+    let b = and-true (leb (codeEnd f + dataLeast + closing) (length f)) (leb (length f) (codeEnd f + dataMost + closing)) k in
+    (leb-true (codeEnd f + dataLeast + closing) (length f) (b .0), leb-true (length f) (codeEnd f + dataMost + closing) (b .1))
+
+-- one byte more of a block check character
+pub xor-next : (x : ℕ) (s : List ℕ) (i : ℕ) → suc i ≤ length s → xorFrom x (drop i s) ≡ xorFrom (bitXor x (getD s i 0)) (drop (suc i) s)
+unfolding xorFrom
+xor-next x s i h = rw (drop-cons s i 0 h)
+
+-- What is named
+
+named-has : (code : ℕ) → Has (namedBy code)
+unfolding namedBy
+named-has code =
+    by-choice Has (leb code lastRegister) _ _ (λ h. omega (arith, leb-true code lastRegister h))
+    (λ _. by-choice Has (leb firstProbe code && leb code lastProbe) _ _
+    (λ h. omega (arith, leb-true code lastProbe (and-true (leb firstProbe code) (leb code lastProbe) h .1)))
+    (λ _. by-choice Has (eqb code activate) _ _ (λ _. tt) (λ _. by-choice Has (eqb code store) _ _ (λ _. tt) (λ _. tt))))
+
+frame-has : (f : List ℕ) → Has (namedIn f)
+unfolding namedIn
+frame-has f = by-choice Has (subcodeRight f) _ _ (λ _. named-has (codeNumber f)) (λ _. tt)
+
+-- What is written
+
+-- the range of a register
+abbrev inRange : ℕ → Bool
+inRange = inSpan (minus registerMost) registerMost
+
+-- a number of at most six figures, and the word of its negative
+range-low : (x : ℕ) → x ≤ registerMost → inRange x ≡ true
+unfolding inSpan choose
+range-low x h = rw (le-leb x registerMost h) (or-true-right (leb (minus registerMost) x))
+
+range-high : (x : ℕ) → minus registerMost ≤ x → inRange x ≡ true
+unfolding inSpan choose
+range-high x h = rw (le-leb (minus registerMost) x h)
+
+range-sign : (negative : Bool) (m : ℕ) → m ≤ registerMost → inRange (withSign negative m) ≡ true
+unfolding withSign
+range-sign negative m h =
+    by-choice (λ (x : ℕ). inRange x ≡ true) (not negative) _ _
+    (λ _. range-low m h)
+    (λ _. by-choice (λ (x : ℕ). inRange x ≡ true) (eqb m 0) _ _ (λ _. range-low 0 (omega arith)) (λ _. range-high (minus m) (omega arith)))
+
+-- the value of a write's data is in range; so is the 0 that stands for none
+Ranged : Parsed → Type 0
+Ranged p = inRange (valueIn p) ≡ true
+
+figures-range : (negative : Bool) (s : List ℕ) → Ranged (figuresOf registerMost negative s)
+unfolding Ranged figuresOf valueIn
+figures-range negative s =
+    let none : inRange 0 ≡ true = range-low 0 (omega arith) in
+    by-choice Ranged (eqb (length s) 0) _ _ (λ _. none)
+    (λ _. by-choice Ranged (not (allFigures decimal s)) _ _ (λ _. none)
+    (λ _. by-choice Ranged (ltb registerMost (valueOf s)) _ _ (λ _. none)
+    (λ h. range-sign negative (valueOf s) (ltb-false registerMost (valueOf s) h))))
+
+data-range : (f : List ℕ) → inRange (valueIn (dataRead f)) ≡ true
+unfolding Ranged dataRead parsedOf valueIn
+data-range f =
+    by-choice Ranged (eqb (length (dataOf f)) 0) _ _ (λ _. range-low 0 (omega arith))
+    (λ _. by-choice Ranged (eqb (getD (dataOf f) 0 0) minusChar) _ _ (λ _. figures-range true (drop 1 (dataOf f))) (λ _. figures-range false (dataOf f)))
+
+-- What is asked
+
+module _ (f : List ℕ) where
+  or-silent : (t : Bool) (o : Order) (number : ℕ) → (t ≡ true → Sound f o) → Sound f (choose t o (Silent number))
+  or-silent t o number h = by-choice (Sound f) t o (Silent number) h (λ _. tt)
+
+  or-refused : (t : Bool) (o : Order) (number : ℕ) → (number ≡ rangeUnknown → codeEnd f ≤ length f) → (t ≡ true → Sound f o) → Sound f (choose t o (Refused number))
+  or-refused t o number k h = by-choice (Sound f) t o (Refused number) h (λ _. k)
+
+  heard-sound : Sound f (heard f)
+  unfolding heard orderIn
+  heard-sound =
+      or-refused (sizeRight f) _ frameForm (λ e. omega arith)
+      (λ s.
+      let k : codeEnd f ≤ length f = omega (arith, size-holds f s) in
+      or-refused _ _ frameForm (λ e. omega arith)
+      (λ _. or-refused _ _ frameForm (λ e. omega arith)
+      (λ _. or-refused _ _ checkCharacter (λ e. omega arith)
+      (λ _. or-refused _ _ rangeUnknown (λ e. k)
+      (λ _. or-refused _ _ readOnly (λ e. omega arith)
+      (λ _. or-refused _ _ valueOutside (λ e. omega arith)
+      (λ _. by-choice (Sound f) (isWrite f) _ _ (λ _. (frame-has f, data-range f)) (λ _. (k, frame-has f)))))))))
+
+  pub asked-sound : (address : ℕ) → Sound f (asked address f)
+  unfolding asked heard
+  asked-sound address =
+      or-silent (lengthRight (length f)) _ _ (λ _. or-silent _ _ _ (λ _. or-silent _ _ _ (λ _. or-silent _ _ _ (λ _. heard-sound))))

@@ -1,0 +1,13 @@
+-- `lecom::form::is_taken` meets its contract, its definition. Assumes nothing.
+use borrow.Author.Needs.{needs}
+use Rattle.lecom.proofs.form.is_taken.Statement.{statement}
+use Rattle.lecom.proofs.form.is_taken.Tie as tie
+
+is-command-requires : tie.Need-is-command-requires
+is-command-requires c κs = search needs
+
+returns : tie.Need-returns
+returns c = rw (c .is-command .ensures)
+
+pub is-taken-spec : {M : Type 1} → statement M
+is-taken-spec = tie.close (tie.spec is-command-requires returns)
