@@ -3,6 +3,7 @@ pub mod Facts
 pub mod Replies
 pub mod Sweep
 pub mod Floats
+pub mod Governed
 pub mod Probes
 pub mod Keeping
 pub mod Changed

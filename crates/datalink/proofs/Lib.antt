@@ -3,3 +3,4 @@ pub mod Responses
 pub mod Pendings
 pub mod Replies
 pub mod Staying
+pub mod Probes

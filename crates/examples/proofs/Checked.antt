@@ -19,7 +19,7 @@ use Rattle.lecom.specs.Frame.{lengthRight as lecomLengthRight, figuresRight as 
 use Rattle.lecom.specs.Answer.{valueBody as lecomValueBody, valueBytes as lecomValueBytes, unknownBytes as lecomUnknownBytes, refusalBytes as lecomRefusalBytes, doneBy as lecomDoneBy, refusedBy as lecomRefusedBy, probeAnswer as lecomProbeAnswer, readAnswer as lecomReadAnswer, activated as lecomActivated, stored as lecomStored, written as lecomWritten, obeyed as lecomObeyed, addressOf as lecomAddressOf, lecomReply as lecomLecomReply}
 use Rattle.love.specs.Form.{lengthRight as loveLengthRight, filterOf as loveFilterOf}
 use Rattle.love.specs.Frame.{forUnit as loveForUnit, checksumRight as loveChecksumRight, parameterOf as loveParameterOf, signRight as loveSignRight, numberIn as loveNumberIn, asked as loveAsked}
-use Rattle.love.specs.Answer.{unitOf as loveUnitOf, errorReply as loveErrorReply, normalReply as loveNormalReply, writtenField as loveWrittenField, signOf as loveSignOf, valueField as loveValueField, statusField as loveStatusField, probeField as loveProbeField, faultReply as loveFaultReply, obeyed as loveObeyed, loveReply as loveLoveReply}
+use Rattle.love.specs.Answer.{unitOf as loveUnitOf, errorReply as loveErrorReply, normalReply as loveNormalReply, writtenField as loveWrittenField, signOf as loveSignOf, valueField as loveValueField, statusField as loveStatusField, probeField as loveProbeField, obeyed as loveObeyed, loveReply as loveLoveReply}
 use Rattle.lucid.specs.Form.{channelsFrom as lucidChannelsFrom, sizeOf as lucidSizeOf, little as lucidLittle, numberAt as lucidNumberAt}
 use Rattle.lucid.specs.Frame.{maskOf as lucidMaskOf, lenFor as lucidLenFor, addressKnown as lucidAddressKnown, inRange as lucidInRange, valueRight as lucidValueRight, placeOf as lucidPlaceOf, orderedParameter as lucidOrderedParameter, ordered as lucidOrdered, asked as lucidAsked}
 use Rattle.lucid.specs.Answer.{joined as lucidJoined, group as lucidGroup, hundredthsOf as lucidHundredthsOf, temperatureIn as lucidTemperatureIn, readingIn as lucidReadingIn, valueOf as lucidValueOf, read as lucidRead, demanded as lucidDemanded, stored as lucidStored, reset as lucidReset, answerTo as lucidAnswerTo, changed as lucidChanged, lucidWords as lucidLucidWords, lucidReply as lucidLucidReply, named as lucidNamed, readsProbe as lucidReadsProbe, asksProbe as lucidAsksProbe}
@@ -31,5 +31,5 @@ allHold [] = true
 allHold (row ∷ rest) = holds startCard row && allHold rest
 
 pub checked : allHold rows ≡ true
-unfolding choose put overlay same total sumOf inRange figureOf charOf allFigures pairByte pairOf digits sizeWithin sizeOf shortest valueFrom valueOf isNegative magnitude withSign textOf figuresOf parsedOf inSpan allIn inMemory namesReadOnly named numRight echoable addressOf fitPending fitAddresses fitParameters fitWords fit withCode setCode fullDemands keptParameters savedCopy savedRegisters dropped faulted restarted restart shell guarded tenthsOf readingOf datalinkIaIn datalinkCommandIn datalinkNumIn datalinkAddressIn datalinkFramed datalinkCommandKnown datalinkKindOf datalinkKindIn datalinkNamedIn datalinkIsAcknowledge datalinkCarried datalinkLengthRight datalinkFormRight datalinkLrcRight datalinkRangeRight datalinkChangeAllowed datalinkChangeRight datalinkOrderIn datalinkAsked datalinkResponse datalinkIaOf datalinkShown datalinkInterrogated datalinkBodyOf datalinkPended datalinkEchoed datalinkNewByte datalinkChanged datalinkAppliedTo datalinkApplied datalinkAcknowledged datalinkObeyed datalinkDatalinkReply lecomLengthRight lecomFiguresRight lecomTensIn lecomOnesIn lecomCollective lecomReaches lecomIsWrite lecomCodeStart lecomIsExtended lecomHexStart lecomCodeEnd lecomCodeOf lecomSizeRight lecomEndRight lecomCodeRight lecomXorFrom lecomBccOf lecomBccRight lecomPairIn lecomCodeNumber lecomSubcodeRight lecomCodeNamed lecomCodeKnown lecomWritable lecomWriteRight lecomDataOf lecomDataRead lecomTakes lecomValueRight lecomValueIn lecomDataRight lecomOrderIn lecomAsked lecomValueBody lecomValueBytes lecomUnknownBytes lecomRefusalBytes lecomDoneBy lecomRefusedBy lecomProbeAnswer lecomReadAnswer lecomActivated lecomStored lecomWritten lecomObeyed lecomAddressOf lecomLecomReply loveLengthRight loveFilterOf loveForUnit loveChecksumRight loveParameterOf loveSignRight loveNumberIn loveAsked loveUnitOf loveErrorReply loveNormalReply loveWrittenField loveSignOf loveValueField loveStatusField loveProbeField loveFaultReply loveObeyed loveLoveReply lucidChannelsFrom lucidSizeOf lucidLittle lucidNumberAt lucidMaskOf lucidLenFor lucidAddressKnown lucidInRange lucidValueRight lucidPlaceOf lucidOrderedParameter lucidOrdered lucidAsked lucidJoined lucidGroup lucidHundredthsOf lucidTemperatureIn lucidReadingIn lucidValueOf lucidRead lucidDemanded lucidStored lucidReset lucidAnswerTo lucidChanged lucidLucidWords lucidLucidReply lucidNamed lucidReadsProbe lucidAsksProbe
+unfolding choose put overlay same total sumOf inRange figureOf charOf allFigures pairByte pairOf digits sizeWithin sizeOf shortest valueFrom valueOf isNegative magnitude withSign textOf figuresOf parsedOf inSpan allIn inMemory namesReadOnly named numRight echoable addressOf fitPending fitAddresses fitParameters fitWords fit withCode setCode fullDemands keptParameters savedCopy savedRegisters dropped faulted restarted restart shell guarded tenthsOf readingOf datalinkIaIn datalinkCommandIn datalinkNumIn datalinkAddressIn datalinkFramed datalinkCommandKnown datalinkKindOf datalinkKindIn datalinkNamedIn datalinkIsAcknowledge datalinkCarried datalinkLengthRight datalinkFormRight datalinkLrcRight datalinkRangeRight datalinkChangeAllowed datalinkChangeRight datalinkOrderIn datalinkAsked datalinkResponse datalinkIaOf datalinkShown datalinkInterrogated datalinkBodyOf datalinkPended datalinkEchoed datalinkNewByte datalinkChanged datalinkAppliedTo datalinkApplied datalinkAcknowledged datalinkObeyed datalinkDatalinkReply lecomLengthRight lecomFiguresRight lecomTensIn lecomOnesIn lecomCollective lecomReaches lecomIsWrite lecomCodeStart lecomIsExtended lecomHexStart lecomCodeEnd lecomCodeOf lecomSizeRight lecomEndRight lecomCodeRight lecomXorFrom lecomBccOf lecomBccRight lecomPairIn lecomCodeNumber lecomSubcodeRight lecomCodeNamed lecomCodeKnown lecomWritable lecomWriteRight lecomDataOf lecomDataRead lecomTakes lecomValueRight lecomValueIn lecomDataRight lecomOrderIn lecomAsked lecomValueBody lecomValueBytes lecomUnknownBytes lecomRefusalBytes lecomDoneBy lecomRefusedBy lecomProbeAnswer lecomReadAnswer lecomActivated lecomStored lecomWritten lecomObeyed lecomAddressOf lecomLecomReply loveLengthRight loveFilterOf loveForUnit loveChecksumRight loveParameterOf loveSignRight loveNumberIn loveAsked loveUnitOf loveErrorReply loveNormalReply loveWrittenField loveSignOf loveValueField loveStatusField loveProbeField loveObeyed loveLoveReply lucidChannelsFrom lucidSizeOf lucidLittle lucidNumberAt lucidMaskOf lucidLenFor lucidAddressKnown lucidInRange lucidValueRight lucidPlaceOf lucidOrderedParameter lucidOrdered lucidAsked lucidJoined lucidGroup lucidHundredthsOf lucidTemperatureIn lucidReadingIn lucidValueOf lucidRead lucidDemanded lucidStored lucidReset lucidAnswerTo lucidChanged lucidLucidWords lucidLucidReply lucidNamed lucidReadsProbe lucidAsksProbe
 checked = refl

@@ -3,8 +3,8 @@ use Prim.Native.Nat.{ℕ}
 use mathlib.Core.List.{List}
 use Rattle.card.specs.Layout.{Card}
 use Rattle.card.specs.Entries.{setCode}
-use Rattle.card.specs.Governor.{governorOf, numberOf, valuesOf}
-use Rattle.card.specs.Reply.{Reply, sent}
+use Rattle.card.specs.Governor.{governorReply}
+use Rattle.card.specs.Reply.{Reply}
 use Rattle.lecom.specs.Answer.{lecomReply}
 use Rattle.love.specs.Answer.{loveReply}
 use Rattle.lucid.specs.Answer.{lucidReply}
@@ -33,7 +33,7 @@ pub data Entry : Type 0 where
 -- what such a call gives
 unfoldable pub replyOf : Card → Entry → Reply
 replyOf card (SetCode channel code) = setCode card channel code
-replyOf card (Governor channel) = sent (numberOf (governorOf card channel)) (valuesOf (governorOf card channel)) card
+replyOf card (Governor channel) = governorReply card channel
 replyOf card (Lecom room f) = lecomReply card room f
 replyOf card (Love room f) = loveReply card room f
 replyOf card (Lucid room f) = lucidReply card room f

@@ -3,3 +3,4 @@ pub mod Writes
 pub mod Orders
 pub mod Laws
 pub mod Fits
+pub mod Probes

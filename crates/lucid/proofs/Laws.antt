@@ -1,5 +1,5 @@
 -- What holds of every LucidControl reply: a refusal changes no table; a failed probe is answered by the fault reply, a group's too; the
--- reply depends on the probes asked for alone, and without one on no memory at all. Assumes nothing.
+-- reply depends on the probes asked for alone. Assumes nothing.
 use mathlib.Core.Path.{_≡_, refl, sym, ap}
 use mathlib.Core.Bool.{Bool, true, false, not}
 use mathlib.Core.List.{List, [], _∷_}
@@ -136,10 +136,6 @@ asked-alone ws memory memory′ f same = by (lengthRight (length f)) refl
     by : (t : Bool) → lengthRight (length f) ≡ t → lucidWords ws memory f ≡ lucidWords ws memory′ f
     by true e = rw e (order-same ws memory memory′ f (asked f) (λ channel h r. same channel h (rw (e, r))))
     by false e = rw e
-
--- a frame that asks for no probe: the reply is the same for any two memories
-pub independent : (ws memory memory′ f : List ℕ) → ((channel : ℕ) → channel < channels → asksProbe f channel ≡ false) → lucidWords ws memory f ≡ lucidWords ws memory′ f
-independent ws memory memory′ f none = asked-alone ws memory memory′ f (λ channel h a. let z : _≡_ {A = ℕ} 0 1 = cc (none channel h) in let y : ⊥ = omega arith in absurd y)
 
 -- the mask of GetIo and SetIo names channel P1 alone
 pub one-channel : (channel : ℕ) → channel < channels → channelsOf (2 ^ channel) ≡ channel ∷ []

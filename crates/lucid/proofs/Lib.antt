@@ -8,3 +8,4 @@ pub mod Replies
 pub mod Orders
 pub mod Laws
 pub mod Fits
+pub mod Probes
