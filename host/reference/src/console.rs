@@ -2,7 +2,7 @@
 
 use std::io::{self, Read, Write};
 
-use crate::card::{self, Card, Governor};
+use crate::card::{self, by_channel, Card, Governor, Parameters, CHANNEL_PARAMETERS};
 use crate::figures::{decimal, decimal_value, hex_byte, hex_figures, DECIMAL_MOST};
 use crate::master::{self, Master, Order, Request, Says};
 use crate::numbers::{Number, Reply};
@@ -358,8 +358,8 @@ impl Console {
             b"saved" => *entry(&mut card.saved, place)? = signed(value)?,
             b"love" => *entry(&mut card.love, place)? = signed(value)?,
             b"demand" => *entry(&mut card.demand, place)? = unsigned(value)?,
-            b"parameter" => *entry(card.parameter.as_flattened_mut(), place)? = unsigned(value)?,
-            b"kept" => *entry(card.kept.as_flattened_mut(), place)? = unsigned(value)?,
+            b"parameter" => *parameter(&mut card.parameter, place)? = unsigned(value)?,
+            b"kept" => *parameter(&mut card.kept, place)? = unsigned(value)?,
             b"pending" => poke_pending(card, place, value)?,
             _ => return Err(Error::Expected),
         }
@@ -383,8 +383,8 @@ impl Console {
             b"saved" => write_entries(out, &card.saved),
             b"love" => write_entries(out, &card.love),
             b"demand" => write_entries(out, &card.demand),
-            b"parameter" => write_entries(out, card.parameter.as_flattened()),
-            b"kept" => write_entries(out, card.kept.as_flattened()),
+            b"parameter" => write_entries(out, &by_channel(&card.parameter)),
+            b"kept" => write_entries(out, &by_channel(&card.kept)),
             b"pending" => peek_pending(card, out),
             _ => return Err(Error::Expected),
         }
@@ -503,6 +503,12 @@ fn address(card: &mut Card, place: usize) -> Result<&mut u32, Error> {
         2 => Ok(&mut card.addresses.love),
         _ => Err(Error::Expected),
     }
+}
+
+/// The entry at a place of the table `parameter` or `kept`, which go channel by channel.
+fn parameter(table: &mut Parameters, place: usize) -> Result<&mut u32, Error> {
+    let (channel, parameter) = (place / CHANNEL_PARAMETERS, place % CHANNEL_PARAMETERS);
+    entry(&mut table[parameter], channel)
 }
 
 /// Stores an entry of the table `pending`.

@@ -1,8 +1,6 @@
 //! The saved image (document 01, "The saved image").
 
-use crate::card::{
-    love_fit, parameters_fit, registers_fit, Addresses, Card, Parameters, LOVE_RANGE, REGISTERS, REGISTER_RANGE,
-};
+use crate::card::{parameters_outside, Addresses, Card, Parameters, CHANNELS, LOVE_RANGE, REGISTERS, REGISTER_RANGE};
 use crate::numbers::{Number, Reply};
 
 /// Bytes of an image.
@@ -38,13 +36,15 @@ pub fn save(card: &Card, image: &mut [u8]) -> Reply {
     writer.put(LECOM_WIDTH, card.addresses.lecom);
     writer.put(LOVE_WIDTH, card.addresses.love);
     for &value in &card.saved {
-        writer.put(REGISTER_WIDTH, value.abs_diff(REGISTER_RANGE.0));
+        writer.put(REGISTER_WIDTH, value.abs_diff(REGISTER_RANGE.least));
     }
-    for &value in card.kept.as_flattened() {
-        writer.put(PARAMETER_WIDTH, value);
+    for channel in 0..CHANNELS {
+        for parameter in card.kept {
+            writer.put(PARAMETER_WIDTH, parameter[channel]);
+        }
     }
     for &value in &card.love {
-        writer.put(LOVE_PARAMETER_WIDTH, value.abs_diff(LOVE_RANGE.0));
+        writer.put(LOVE_PARAMETER_WIDTH, value.abs_diff(LOVE_RANGE.least));
     }
     writer.put(PADDING_WIDTH, 0);
     writer.finish();
@@ -84,15 +84,17 @@ impl Entries {
         };
         let mut saved = [0; REGISTERS];
         for entry in &mut saved {
-            *entry = reader.take(REGISTER_WIDTH) as i32 + REGISTER_RANGE.0;
+            *entry = reader.take(REGISTER_WIDTH) as i32 + REGISTER_RANGE.least;
         }
         let mut kept = Parameters::default();
-        for entry in kept.as_flattened_mut() {
-            *entry = reader.take(PARAMETER_WIDTH);
+        for channel in 0..CHANNELS {
+            for parameter in &mut kept {
+                parameter[channel] = reader.take(PARAMETER_WIDTH);
+            }
         }
         let mut love = [0; 4];
         for entry in &mut love {
-            *entry = reader.take(LOVE_PARAMETER_WIDTH) as i32 + LOVE_RANGE.0;
+            *entry = reader.take(LOVE_PARAMETER_WIDTH) as i32 + LOVE_RANGE.least;
         }
         Self {
             addresses,
@@ -105,7 +107,13 @@ impl Entries {
 
     /// Whether every entry lies in its range.
     fn are_fit(&self) -> bool {
-        self.addresses.is_fit() & registers_fit(&self.saved) & parameters_fit(&self.kept) & love_fit(&self.love)
+        let [first, second] = &self.kept;
+        let outside = REGISTER_RANGE.excludes_any(&self.saved)
+            | (0..CHANNELS).fold(false, |any, channel| {
+                any | parameters_outside(first[channel], second[channel])
+            })
+            | LOVE_RANGE.excludes_any(&self.love);
+        !outside & self.addresses.is_fit()
     }
 }
 
