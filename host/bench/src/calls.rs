@@ -81,20 +81,18 @@ pub struct Request {
     pub ask: Ask,
 }
 
-/// The rest of the master's request, for the unit at I.A. 3, and the answer to its last frame.
+/// The rest of the master's request, and the answer to its last frame.
 #[derive(Default)]
 pub struct Ask {
     /// Whether the exchange begins with this step.
     pub begins: bool,
     /// [`archive::BYTES`] or [`archive::BITS`].
     pub kind: u8,
+    pub ia: u32,
     pub address: u32,
     pub states: Vec<u8>,
     pub answer: Vec<u8>,
 }
-
-/// The I.A. that the master speaks to.
-pub const IA: u32 = 3;
 
 /// A card on both sides, the buffers, and what the last call gave.
 pub struct Bed {
@@ -219,7 +217,7 @@ fn archive_step(bed: &mut Bed, request: &Request) {
         archive::nk_step(
             &mut bed.phase,
             ask.kind,
-            IA,
+            ask.ia,
             ask.address,
             sent.as_ptr(),
             sent.len(),
@@ -290,7 +288,7 @@ fn second_step(bed: &mut Bed, request: &Request) {
         },
     };
     let asked = MasterRequest {
-        ia: IA,
+        ia: ask.ia,
         address: ask.address,
         order,
     };

@@ -471,6 +471,7 @@ fn exchanges(name: &'static str, bytes: &[u8], bits: &[u8]) -> Group {
 }
 
 /// Where the master's changes go.
+const IA: u32 = 3;
 const ADDRESS: u16 = 0x1101;
 
 /// The four steps of an exchange that gets this echo and this read-back.
@@ -483,6 +484,7 @@ fn exchange(kind: u8, sent: &[u8], states: &[u8], [echo, read]: [Vec<u8>; 2]) ->
         case.request.ask = Ask {
             begins: name == names[0],
             kind,
+            ia: IA,
             address: ADDRESS.into(),
             states: states.to_vec(),
             answer,

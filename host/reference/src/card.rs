@@ -302,8 +302,10 @@ pub fn restart(card: &mut Card) -> Number {
     if !card.is_fit() {
         return Number::Unfit;
     }
-    card.buffer = card.saved;
-    card.operational = card.saved;
+    for ((buffer, operational), &saved) in card.buffer.iter_mut().zip(&mut card.operational).zip(&card.saved) {
+        *buffer = saved;
+        *operational = saved;
+    }
     card.parameter = card.kept;
     card.demand = [RESTART_DEMAND; CHANNELS];
     card.memory[..CHANNELS].fill(FAULT_CODE);

@@ -2,30 +2,15 @@
 
 use crate::blocks::{padded, sum, sum_of_first};
 use crate::card::{in_memory, is_writable, Card, MEMORY_START, NUM_MOST, PENDING_BITS, PENDING_CHANGE, PENDING_NONE};
+use crate::message::{
+    data_room, forced, Head, ACKNOWLEDGE, ADDRESS_FIELD, CHANGE, CHANGE_BITS, COMMAND_FIELD, HEAD, INTERROGATE, START,
+};
 use crate::numbers::{Number, Reply, ANSWER_ROOM};
 
 /// Shortest frame.
 pub const SHORTEST: usize = 2;
 /// Longest frame.
 pub const LONGEST: usize = 38;
-/// First byte of every frame.
-pub const START: u8 = 0x7E;
-/// Command bits: a request for bytes.
-pub const INTERROGATE: u8 = 0xE0;
-/// Command bits: new bytes.
-pub const CHANGE: u8 = 0xA0;
-/// Command bits: masks and states.
-pub const CHANGE_BITS: u8 = 0xC0;
-/// Command bits: apply the pending change; two bytes, no LRC.
-pub const ACKNOWLEDGE: u8 = 0x80;
-/// Command bits: the card's answer.
-pub const RESPONSE: u8 = 0x20;
-
-const COMMAND_FIELD: u8 = 0xE0;
-const ADDRESS_FIELD: u8 = 0x1F;
-/// Bytes before the data: 7Eh, command and I.A., NUM, low address, high address.
-pub const HEAD: usize = 5;
-
 /// Entry: a Datalink frame.
 pub fn datalink(card: &mut Card, frame: &[u8], answer: &mut [u8]) -> Reply {
     if !card.is_fit() {
@@ -71,7 +56,7 @@ fn interrogate(card: &Card, frame: &[u8], answer: &mut [u8; ANSWER_ROOM]) -> Rep
     }
     let first = usize::from(head.address() - MEMORY_START);
     head.response().write(&card.memory[first..first + count], answer);
-    let [_, _, _, _, _, data @ .., _] = &*answer;
+    let data = data_room(answer);
     answer[HEAD + count] = head.response_lrc(lrc).wrapping_add(sum_of_first(count, data));
     Reply::answered(HEAD + count + 1)
 }
@@ -105,62 +90,6 @@ fn change(card: &mut Card, kind: u8, frame: &[u8], answer: &mut [u8; ANSWER_ROOM
     head.response().write(data, answer);
     answer[HEAD + data.len()] = head.response_lrc(lrc);
     Reply::answered(frame.len())
-}
-
-/// Command and I.A., NUM, low address and high address: the bytes after 7Eh and before the data.
-#[derive(Clone, Copy)]
-struct Head(u32);
-
-impl Head {
-    /// Takes a frame apart into head, data and LRC.
-    #[inline]
-    fn take(frame: &[u8]) -> Option<(Self, &[u8], u8)> {
-        let (&[_, a, b, c, d], rest) = frame.split_first_chunk()?;
-        let (&lrc, data) = rest.split_last()?;
-        Some((Self(u32::from_le_bytes([a, b, c, d])), data, lrc))
-    }
-
-    #[inline]
-    fn command(self) -> u8 {
-        self.0 as u8
-    }
-
-    #[inline]
-    fn num(self) -> u8 {
-        (self.0 >> 8) as u8
-    }
-
-    #[inline]
-    fn address(self) -> u16 {
-        (self.0 >> 16) as u16
-    }
-
-    #[inline]
-    fn sum(self) -> u8 {
-        let [command, num, low, high] = self.0.to_le_bytes();
-        command.wrapping_add(num).wrapping_add(low).wrapping_add(high)
-    }
-
-    /// The head of the card's answer to this one.
-    #[inline]
-    fn response(self) -> Self {
-        let command = u32::from(COMMAND_FIELD);
-        Self(self.0 & !command | u32::from(RESPONSE))
-    }
-
-    /// The LRC of the card's answer, as far as it answers the same data: only the command differs.
-    #[inline]
-    fn response_lrc(self, lrc: u8) -> u8 {
-        lrc.wrapping_sub(self.command()).wrapping_add(self.response().command())
-    }
-
-    /// Writes 7Eh, this head and the data.
-    #[inline]
-    fn write(self, data: &[u8], answer: &mut [u8; ANSWER_ROOM]) {
-        answer[0] = START;
-        answer[1..HEAD].copy_from_slice(&self.0.to_le_bytes());
-        answer[HEAD..HEAD + data.len()].copy_from_slice(data);
-    }
 }
 
 /// Applies and clears the pending change, which fitness has found to be one that was echoed.
@@ -197,21 +126,4 @@ fn force_each(bytes: &mut [u8], pairs: &[[u8; 2]]) {
     for (byte, &[mask, state]) in bytes.iter_mut().zip(pairs) {
         *byte = forced(*byte, mask, state);
     }
-}
-
-/// What a masked byte becomes.
-#[inline]
-pub fn forced(old: u8, mask: u8, state: u8) -> u8 {
-    (old & mask) | state
-}
-
-/// Writes a frame with NUM, address, data (at most 32 bytes) and LRC; returns its length.
-#[inline]
-pub fn write_frame(frame: &mut [u8; LONGEST], command: u8, num: u8, address: u16, data: &[u8]) -> usize {
-    let [low, high] = address.to_le_bytes();
-    let end = HEAD + data.len();
-    frame[..HEAD].copy_from_slice(&[START, command, num, low, high]);
-    frame[HEAD..end].copy_from_slice(data);
-    frame[end] = frame[1..end].iter().fold(0, |sum, &byte| sum.wrapping_add(byte));
-    end + 1
 }

@@ -223,12 +223,20 @@ fn write(card: &mut Card, frame: &[u8], line: Line) -> Reply {
     }
     if value == 1 {
         if reached == ACTIVATE {
-            card.operational = card.buffer;
+            copy(&card.buffer, &mut card.operational);
         } else {
-            card.saved = card.operational;
+            copy(&card.operational, &mut card.saved);
         }
     }
     line.written()
+}
+
+/// Copies registers, in blocks that are copied in place: the C library's copy of all of them takes more instructions.
+#[inline(always)]
+fn copy(from: &[i32; REGISTERS], to: &mut [i32; REGISTERS]) {
+    for (to, from) in to.as_chunks_mut::<32>().0.iter_mut().zip(from.as_chunks().0) {
+        *to = *from;
+    }
 }
 
 /// The value of the data characters before ETX and BCC at the block's end: an optional minus and at least one figure, in

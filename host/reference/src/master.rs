@@ -1,8 +1,9 @@
 //! The Datalink line master (document 01, "Datalink", second half).
 
-use crate::datalink::{
-    forced, write_frame, ACKNOWLEDGE, CHANGE, CHANGE_BITS, HEAD, INTERROGATE, LONGEST, RESPONSE, START,
-};
+use crate::blocks::{padded, sum, sum_of_first};
+use crate::card::NUM_MOST;
+use crate::datalink::LONGEST;
+use crate::message::{data_room, forced, Head, ACKNOWLEDGE, CHANGE, CHANGE_BITS, HEAD, INTERROGATE, START};
 use crate::numbers::Number;
 
 const IA_MOST: u32 = 31;
@@ -115,10 +116,7 @@ pub fn step(master: &mut Master, request: &Request, answer: Option<&[u8]>, frame
         return master.refused(Number::ShortBuffer);
     };
     let (state, length) = match master.state {
-        State::New => {
-            let command = plan.change_command();
-            (State::ChangeSent, plan.write_change(command, frame))
-        }
+        State::New => (State::ChangeSent, plan.write_change(frame)),
         State::ChangeSent if plan.is_echo(answer) => (State::AcknowledgeSent, plan.write_acknowledge(frame)),
         State::AcknowledgeSent => (State::InterrogateSent, plan.write_interrogate(frame)),
         State::InterrogateSent if plan.is_as_asked(answer) => (State::Done, 0),
@@ -162,62 +160,140 @@ impl<'a> Plan<'a> {
         })
     }
 
-    /// Change for bytes, Change Bits for bits.
-    fn change_command(&self) -> u8 {
+    /// The head of the change: Change for bytes, Change Bits for bits.
+    #[inline(always)]
+    fn change(&self) -> Head {
         match self.order {
-            Order::Bytes(_) => CHANGE,
-            Order::Bits { .. } => CHANGE_BITS,
+            Order::Bytes(_) => Head::new(CHANGE | self.ia, self.named, self.address),
+            Order::Bits { .. } => Head::new(CHANGE_BITS | self.ia, 2 * self.named, self.address),
         }
     }
 
-    /// Writes the change under the given command bits, the master's or those of its echo.
-    fn write_change(&self, command: u8, frame: &mut [u8; LONGEST]) -> usize {
-        let command = command | self.ia;
+    /// The head of the interrogate.
+    #[inline(always)]
+    fn interrogate(&self) -> Head {
+        Head::new(INTERROGATE | self.ia, self.named, self.address)
+    }
+
+    #[inline(always)]
+    fn write_change(&self, frame: &mut [u8; LONGEST]) -> usize {
+        let head = self.change();
         match self.order {
-            Order::Bytes(bytes) => write_frame(frame, command, self.named, self.address, bytes),
+            Order::Bytes(bytes) => head.write(bytes, frame),
             Order::Bits { masks, states } => {
-                let mut data = [0; 2 * BITS_MOST];
-                for (pair, (&mask, &state)) in data.chunks_exact_mut(2).zip(masks.iter().zip(states)) {
-                    pair.copy_from_slice(&[mask, state]);
-                }
-                let num = 2 * self.named;
-                let data = &data[..usize::from(num)];
-                write_frame(frame, command, num, self.address, data)
+                head.write(&[], frame);
+                write_pairs(masks, states, &mut frame[HEAD..]);
             }
         }
+        let end = HEAD + usize::from(head.num());
+        frame[end] = head
+            .sum()
+            .wrapping_add(sum_of_first(head.num().into(), data_room(frame)));
+        end + 1
     }
 
+    #[inline(always)]
     fn write_acknowledge(&self, frame: &mut [u8; LONGEST]) -> usize {
         let acknowledge = [START, ACKNOWLEDGE | self.ia];
         frame[..acknowledge.len()].copy_from_slice(&acknowledge);
         acknowledge.len()
     }
 
+    #[inline(always)]
     fn write_interrogate(&self, frame: &mut [u8; LONGEST]) -> usize {
-        write_frame(frame, INTERROGATE | self.ia, self.named, self.address, &[])
+        let head = self.interrogate();
+        head.write(&[], frame);
+        frame[HEAD] = head.sum();
+        HEAD + 1
     }
 
     /// Whether the answer is the change's exact echo.
+    #[inline(always)]
     fn is_echo(&self, answer: Option<&[u8]>) -> bool {
-        let mut echo = [0; LONGEST];
-        let length = self.write_change(RESPONSE, &mut echo);
-        answer == Some(&echo[..length])
+        let Some(data) = response_data(answer, self.change()) else {
+            return false;
+        };
+        match self.order {
+            Order::Bytes(bytes) => data == bytes,
+            Order::Bits { masks, states } => are_pairs(data, masks, states),
+        }
     }
 
     /// Whether the answer is a response to the interrogate with every byte, or every forced bit, as asked.
+    #[inline(always)]
     fn is_as_asked(&self, answer: Option<&[u8]>) -> bool {
-        let named = usize::from(self.named);
-        let Some(data) = answer.and_then(|answer| answer.get(HEAD..HEAD + named)) else {
+        let Some(data) = response_data(answer, self.interrogate()) else {
             return false;
         };
-        let mut response = [0; LONGEST];
-        let command = RESPONSE | self.ia;
-        let length = write_frame(&mut response, command, self.named, self.address, data);
-        answer == Some(&response[..length])
-            && match self.order {
-                Order::Bytes(bytes) => data == bytes,
-                Order::Bits { masks, states } => (data.iter().zip(masks).zip(states))
-                    .all(|((&byte, &mask), &state)| forced(byte, mask, state) == byte),
-            }
+        match self.order {
+            Order::Bytes(bytes) => data == bytes,
+            Order::Bits { masks, states } => are_forced(data, masks, states),
+        }
     }
+}
+
+/// The data of an answer that is a response to a request with this head and has a right LRC.
+#[inline(always)]
+fn response_data(answer: Option<&[u8]>, request: Head) -> Option<&[u8]> {
+    let (head, data, lrc) = Head::take(answer?)?;
+    let is_response = answer?[0] == START && head == request.response() && data.len() == usize::from(head.num());
+    (is_response && data.len() <= NUM_MOST && head.sum().wrapping_add(sum(&padded(data, 0))) == lrc).then_some(data)
+}
+
+/// Writes mask and state of each byte, eight bytes at a time as far as there are eight.
+#[inline(always)]
+fn write_pairs(masks: &[u8], states: &[u8], data: &mut [u8]) {
+    let pairs = data.as_chunks_mut::<2>().0;
+    let ((masks, masks_rest), (states, states_rest)) = (masks.as_chunks::<8>(), states.as_chunks::<8>());
+    let (eights, rest) = pairs.split_at_mut(8 * masks.len());
+    for ((pairs, masks), states) in eights.as_chunks_mut::<8>().0.iter_mut().zip(masks).zip(states) {
+        for ((pair, &mask), &state) in pairs.iter_mut().zip(masks).zip(states) {
+            *pair = [mask, state];
+        }
+    }
+    for ((pair, &mask), &state) in rest.iter_mut().zip(masks_rest).zip(states_rest) {
+        *pair = [mask, state];
+    }
+}
+
+/// Whether data is mask and state of each byte.
+#[inline(always)]
+fn are_pairs(data: &[u8], masks: &[u8], states: &[u8]) -> bool {
+    all(data.as_chunks().0, masks, states, |pair, mask, state| {
+        pair == [mask, state]
+    })
+}
+
+/// Whether every forced bit of the bytes is as asked.
+#[inline(always)]
+fn are_forced(bytes: &[u8], masks: &[u8], states: &[u8]) -> bool {
+    all(bytes, masks, states, |byte, mask, state| {
+        forced(byte, mask, state) == byte
+    })
+}
+
+/// Whether something holds of each item with its mask and state, asked of eight at once as far as there are eight.
+#[inline(always)]
+fn all<T: Copy>(items: &[T], masks: &[u8], states: &[u8], holds: impl Fn(T, u8, u8) -> bool) -> bool {
+    let (masks, states) = (&masks[..items.len()], &states[..items.len()]);
+    let mut first = 0;
+    while let (Some(items), Some(masks), Some(states)) = (
+        items[first..].first_chunk::<8>(),
+        masks[first..].first_chunk::<8>(),
+        states[first..].first_chunk::<8>(),
+    ) {
+        if !(0..8).fold(true, |all, place| {
+            all & holds(items[place], masks[place], states[place])
+        }) {
+            return false;
+        }
+        first += 8;
+    }
+    while first < items.len() {
+        if !holds(items[first], masks[first], states[first]) {
+            return false;
+        }
+        first += 1;
+    }
+    true
 }
