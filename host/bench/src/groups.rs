@@ -143,7 +143,7 @@ fn case(name: impl Into<String>, entry: Entry, bytes: Vec<u8>) -> Case {
             channel: 0,
             code: 0,
             bytes,
-            ask: Ask::default(),
+            ask: Ask::new(BYTES, 0, 0, &[], &[]),
         },
     }
 }
@@ -481,13 +481,14 @@ fn exchange(kind: u8, sent: &[u8], states: &[u8], [echo, read]: [Vec<u8>; 2]) ->
     let step = |(name, answer): (&str, Vec<u8>)| {
         let what = if kind == BYTES { "bytes" } else { "bytes of bits" };
         let mut case = case(format!("{name}, {} {what}", sent.len()), Entry::Step, sent.to_vec());
+        // Lent to the second program for the rest of the run.
+        let (sent, states, answer) = (sent.to_vec().leak(), states.to_vec().leak(), answer.leak());
+        let second_answer = Some(&*answer).filter(|answer| !answer.is_empty());
         case.request.ask = Ask {
             begins: name == names[0],
-            kind,
-            ia: IA,
-            address: ADDRESS.into(),
-            states: states.to_vec(),
             answer,
+            second_answer,
+            ..Ask::new(kind, IA, ADDRESS.into(), sent, states)
         };
         case
     };

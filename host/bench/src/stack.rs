@@ -88,7 +88,7 @@ fn arguments(bed: &mut Bed, request: &Request) -> Vec<u64> {
                 ask.ia.into(),
                 ask.address.into(),
             ];
-            let rest = [lent(&ask.states), lent(&ask.answer)].concat();
+            let rest = [lent(ask.states), lent(ask.answer)].concat();
             [asked, bytes, rest, answer].concat()
         }
     }

@@ -24,13 +24,15 @@ pub const FAULT_CODE: u8 = 255;
 /// The demand after a restart.
 pub const RESTART_DEMAND: u32 = 65_535;
 /// Smallest and largest demand.
-pub const DEMAND_RANGE: Range = Range::new(0, 65_535);
+pub const DEMAND_RANGE: Range = SIXTEEN_BITS;
 /// Smallest and largest LECOM register.
 pub const REGISTER_RANGE: Range = Range::new(-999_999, 999_999);
 /// Smallest and largest Love parameter, in tenths.
 pub const LOVE_RANGE: Range = Range::new(-400, 870);
 /// Smallest and largest value of the parameters 1110h and 1120h.
-pub const PARAMETER_RANGES: [Range; CHANNEL_PARAMETERS] = [Range::new(1_000, 60_000_000), Range::new(0, 65_535)];
+pub const PARAMETER_RANGES: [Range; CHANNEL_PARAMETERS] = [Range::new(1_000, 60_000_000), SIXTEEN_BITS];
+/// Every value of sixteen bits, and no other.
+const SIXTEEN_BITS: Range = Range::new(0, 65_535);
 /// Defaults of the parameters 1110h and 1120h.
 pub const PARAMETER_DEFAULTS: [u32; CHANNEL_PARAMETERS] = [1_000_000, 0];
 /// All parameters at their defaults.
@@ -83,6 +85,14 @@ impl Range {
     #[inline]
     pub fn excludes_any<const N: usize>(&self, values: &[i32; N]) -> bool {
         values.iter().fold(false, |any, &value| any | self.excludes(value))
+    }
+
+    /// The same of unsigned values.
+    #[inline]
+    pub fn excludes_any_unsigned<const N: usize>(&self, values: &[u32; N]) -> bool {
+        values
+            .iter()
+            .fold(false, |any, &value| any | self.excludes_unsigned(value))
     }
 }
 
@@ -230,14 +240,14 @@ impl Card {
 
     /// Whether addresses, entries and pending change keep document 01's rules; number 12 if not. Probe codes and memory
     /// bytes have no unfit value.
-    #[inline]
+    ///
+    /// Kept out of line: where it is inlined, the compiler turns some of its tests about and needs more instructions.
+    #[inline(never)]
     pub fn is_fit(&self) -> bool {
         !self.has_register_outside() && !self.has_four_outside() && self.addresses.is_fit() && self.pending.is_fit()
     }
 
     /// Whether a register of any copy is outside its range.
-    ///
-    /// Kept out of line: where it is inlined, the compiler turns the test about and needs half as many instructions more.
     #[inline]
     fn has_register_outside(&self) -> bool {
         REGISTER_RANGE.excludes_any(&self.buffer)
@@ -249,16 +259,12 @@ impl Card {
     #[inline]
     fn has_four_outside(&self) -> bool {
         let ([first, second], [first_kept, second_kept]) = (&self.parameter, &self.kept);
+        // Values are all of sixteen bits exactly if their or is.
+        let sixteen_bits = self.demand.iter().chain(second).chain(second_kept);
         LOVE_RANGE.excludes_any(&self.love)
-            || PARAMETER_RANGES[0].excludes_any(&first.map(|value| value as i32))
-            || PARAMETER_RANGES[0].excludes_any(&first_kept.map(|value| value as i32))
-            || self
-                .demand
-                .iter()
-                .chain(second)
-                .chain(second_kept)
-                .fold(0, |all, value| all | value)
-                > 65_535
+            || PARAMETER_RANGES[0].excludes_any_unsigned(first)
+            || PARAMETER_RANGES[0].excludes_any_unsigned(first_kept)
+            || SIXTEEN_BITS.excludes_unsigned(sixteen_bits.fold(0, |all, value| all | value))
     }
 
     /// The temperature of a probe, or none at fault.
@@ -275,12 +281,6 @@ impl Default for Card {
     fn default() -> Self {
         Self::new()
     }
-}
-
-/// Whether one of a channel's parameters is outside its range.
-#[inline]
-pub const fn parameters_outside(first: u32, second: u32) -> bool {
-    PARAMETER_RANGES[0].excludes_unsigned(first) | PARAMETER_RANGES[1].excludes_unsigned(second)
 }
 
 /// Entry: set a probe code.

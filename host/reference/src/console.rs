@@ -333,7 +333,7 @@ impl Console {
         let frame = &mut self.room[..room];
         let step = master::step(&mut self.master, &request, answer, frame);
         write_number(out, step.number);
-        out.extend_from_slice(match step.says {
+        out.extend_from_slice(match self.master.says() {
             Says::Open => b" open",
             Says::Done => b" done",
             Says::Unknown => b" unknown",

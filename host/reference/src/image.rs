@@ -126,8 +126,8 @@ pub fn load(card: &mut Card, image: &[u8]) -> Number {
     }
     let (addresses, kept, love) = (addresses_of(word(image, 0)), kept_of(image), love_of(last));
     let is_outside = LOVE_RANGE.excludes_any(&love)
-        || (kept.iter().zip(PARAMETER_RANGES))
-            .any(|(values, range)| range.excludes_any(&values.map(|value| value as i32)));
+        || PARAMETER_RANGES[0].excludes_any_unsigned(&kept[0])
+        || PARAMETER_RANGES[1].excludes_any_unsigned(&kept[1]);
     if is_outside || !addresses.is_fit() {
         return Number::Unfit;
     }

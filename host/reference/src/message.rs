@@ -30,8 +30,7 @@ pub struct Head(u32);
 impl Head {
     #[inline]
     pub fn new(command: u8, num: u8, address: u16) -> Self {
-        let [low, high] = address.to_le_bytes();
-        Self(u32::from_le_bytes([command, num, low, high]))
+        Self(u32::from(address) << 16 | u32::from(num) << 8 | u32::from(command))
     }
 
     /// Takes a frame apart into head, data and LRC.

@@ -9,7 +9,7 @@ type Seen = (u8, Says, Vec<u8>);
 fn stepped(master: &mut Master, request: &Request, answer: Option<&[u8]>) -> Seen {
     let mut frame = [0; 38];
     let step = step(master, request, answer, &mut frame);
-    (step.number as u8, step.says, frame[..step.length].to_vec())
+    (step.number as u8, master.says(), frame[..step.length].to_vec())
 }
 
 fn bytes(bytes: &[u8]) -> Request<'_> {
@@ -160,10 +160,7 @@ fn refusals_by_7_and_11() {
 
     let mut master = Master::new();
     let outcome = step(&mut master, &bytes(&[1]), None, &mut [0; 37]);
-    assert_eq!(
-        (outcome.number as u8, outcome.says, outcome.length),
-        (11, Says::Open, 0)
-    );
+    assert_eq!((outcome.number as u8, outcome.length), (11, 0));
     assert_eq!(master, Master::new());
     let outcome = step(&mut master, &bytes(&[0; 33]), None, &mut []);
     assert_eq!(outcome.number as u8, 7);
