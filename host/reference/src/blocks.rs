@@ -26,25 +26,21 @@ pub fn sum_of<const N: usize>(bytes: &[u8; N]) -> u8 {
 /// The sum modulo 256 of the first bytes of a block.
 #[inline(never)]
 pub fn sum_of_first(count: usize, block: &[u8; 32]) -> u8 {
-    let Some(mask) = MASKS
-        .get(32 - count.min(32)..)
-        .and_then(|masks| masks.first_chunk::<32>())
-    else {
-        return 0;
-    };
-    block
-        .iter()
-        .zip(mask)
-        .fold(0, |sum, (&byte, mask)| sum.wrapping_add(byte & mask))
+    let bytes = block.iter().zip(&MASKS[count]);
+    bytes.fold(0, |sum, (&byte, &mask)| sum.wrapping_add(byte & mask))
 }
 
-/// From place 32 less a count on, that many bytes of ones and then zeros.
-static MASKS: [u8; 64] = {
-    let mut masks = [0; 64];
-    let mut place = 0;
-    while place < 32 {
-        masks[place] = 0xFF;
-        place += 1;
+/// For each count, that many bytes of ones and after them zeros.
+static MASKS: [[u8; 32]; 33] = {
+    let mut masks = [[0; 32]; 33];
+    let mut count = 0;
+    while count <= 32 {
+        let mut place = 0;
+        while place < count {
+            masks[count][place] = 0xFF;
+            place += 1;
+        }
+        count += 1;
     }
     masks
 };

@@ -56,7 +56,7 @@ fn put(image: &mut [u8; IMAGE], place: usize, word: u64) {
 /// Puts the registers after the lowest bits of the field before; gives the word that ends with the last register.
 #[inline(always)]
 fn put_registers(before: u64, registers: &[i32; REGISTERS], image: &mut [u8; IMAGE]) -> u64 {
-    /// Twice 999,999, as two fields of a word.
+    /// 999,999 as each of two fields.
     const TWO: u64 = ((1 << REGISTER_WIDTH) + 1) * REGISTER_RANGE.least.unsigned_abs() as u64;
     // A word that ends with two registers. The sum of the values as they are, negative ones too, is set right at its end.
     let ended = |word: u64, first: i32, second: i32| {
@@ -64,6 +64,8 @@ fn put_registers(before: u64, registers: &[i32; REGISTERS], image: &mut [u8; IMA
         (word << REGISTER_WIDTH).wrapping_add((i64::from(second) as u64).wrapping_add(TWO))
     };
     let field = |value: i32| u64::from((value - REGISTER_RANGE.least) as u32);
+    // Three words of a group: 6 bits of before, 21, 21 and 16; 5, 21, 21 and 17; 4, 21 and 21, whose last six begin the
+    // next group and are put again with it.
     let mut last = before;
     let mut place = REGISTERS_PLACE;
     for groups in registers.as_chunks::<{ TURN * GROUP }>().0 {
@@ -169,6 +171,7 @@ fn addresses_of(first: u64) -> Addresses {
 /// The fields of a group of registers, not yet judged: two from each of four words.
 #[inline(always)]
 fn group_of(image: &[u8; IMAGE], group: usize) -> [i32; GROUP] {
+    // The pairs begin at the bits 6, 48, 90 and 132 of the group.
     let field = |word: u64, below: u32| lowest(word >> below, REGISTER_WIDTH) as i32;
     let place = REGISTERS_PLACE + GROUP_BYTES * group;
     let [a, b, c, d] = [0, 6, 11, 16].map(|offset| word(image, place + offset));

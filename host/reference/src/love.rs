@@ -47,7 +47,7 @@ pub fn love(card: &mut Card, frame: &[u8], answer: &mut [u8]) -> Reply {
     let [STX, _, high, low, data @ .., first, second, ETX] = frame else {
         return Reply::silent(Number::Form);
     };
-    if frame.len() > LONGEST {
+    if !(SHORTEST..=LONGEST).contains(&frame.len()) {
         return Reply::silent(Number::Form);
     }
     let head = head(card.addresses.love);
@@ -110,22 +110,23 @@ fn exchange(card: &mut Card, head: [u8; HEAD], data: &[u8], answer: &mut [u8; AN
             Ok(send(head, parameter_figures(value), answer))
         }
         (WRITE, &[a, b, c, d, e, f]) => {
-            card.love[parameter(last)?] = written_value([a, b, c, d], [e, f])?;
+            // The parameter is asked for first: an unknown one is refused whatever the value.
+            let place = parameter(last)?;
+            card.love[place] = written_value([a, b, c, d], [e, f])?;
             Ok(send(head, *b"00", answer))
         }
         _ => Err(refusal(data)),
     }
 }
 
-/// Why data is refused that is neither "00" nor a read or write by its length.
+/// Why data of four characters or more is refused that is neither a read nor a write by its length.
 #[inline(always)]
 fn refusal(data: &[u8]) -> Refusal {
     match *data {
         _ if data.len() > DATA_MOST => DATA_FIELD_ERROR,
         [b'0', b'0', ..] => DATA_FIELD_ERROR,
         [b'0', b'1' | b'2', b'0', b'0' | b'2' | b'4' | b'5', ..] => DATA_FIELD_ERROR,
-        [_, _, _, _, ..] => UNDEFINED_COMMAND,
-        _ => DATA_FIELD_ERROR,
+        _ => UNDEFINED_COMMAND,
     }
 }
 
