@@ -22,9 +22,10 @@ const REGISTERS_PLACE: usize = 2;
 /// Registers of a group, and its bytes.
 const GROUP: usize = 8;
 const GROUP_BYTES: usize = 21;
-/// Groups that a loop takes in one turn, and its turns.
-const TURN: usize = 3;
-const TURNS: usize = REGISTERS / GROUP / TURN;
+/// Groups that the loop which puts them, and that which takes them, has in one turn.
+const PUT_TURN: usize = 6;
+const TAKE_TURN: usize = 3;
+const TAKE_TURNS: usize = REGISTERS / GROUP / TAKE_TURN;
 /// Where the saved parameters' first byte is; its upper six bits belong to the last register.
 const KEPT_PLACE: usize = REGISTERS_PLACE + REGISTERS / GROUP * GROUP_BYTES;
 /// Bits of a byte that belong to the field before, wherever registers and parameters begin.
@@ -68,7 +69,7 @@ fn put_registers(before: u64, registers: &[i32; REGISTERS], image: &mut [u8; IMA
     // next group and are put again with it.
     let mut last = before;
     let mut place = REGISTERS_PLACE;
-    for groups in registers.as_chunks::<{ TURN * GROUP }>().0 {
+    for groups in registers.as_chunks::<{ PUT_TURN * GROUP }>().0 {
         for &[a, b, c, d, e, f, g, h] in groups.as_chunks::<GROUP>().0 {
             let (c, f) = (field(c), field(f));
             put(image, place, ended(last, a, b) << 16 | c >> 5);
@@ -118,7 +119,8 @@ pub fn load(card: &mut Card, image: &[u8]) -> Number {
     if last & ((1 << PADDING_WIDTH) - 1) != 0 {
         return Number::ImagePadding;
     }
-    let fields: [[[i32; GROUP]; TURN]; TURNS] = from_fn(|turn| from_fn(|group| group_of(image, TURN * turn + group)));
+    let fields: [[[i32; GROUP]; TAKE_TURN]; TAKE_TURNS] =
+        from_fn(|turn| from_fn(|group| group_of(image, TAKE_TURN * turn + group)));
     let fields = fields.as_flattened().as_flattened();
     if fields
         .iter()
