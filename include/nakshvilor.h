@@ -1,23 +1,23 @@
 /* Nakshvilor: the proved protocol core of the cooling card.
  *
- * Link with libfirmware.a (`rt staticlib firmware` writes target/staticlib/libfirmware.a). The archive asks
- * for memcpy alone, allocates nothing, keeps no state of its own and calls nothing back.
+ * Link with libfirmware.a (`rt staticlib firmware` writes target/staticlib/libfirmware.a). The archive is for x86-64 with the
+ * System V calling convention alone. It needs memcpy, allocates nothing, keeps no state and calls no other function.
  *
- * TABLES. The firmware owns three tables and lends them to every call of the card. Each is a pointer and a count of ELEMENTS. A
- * table of any other length than below, zero too, gets NK_CARD_UNFIT and is not touched.
+ * TABLES. The firmware owns three tables and passes them to every call of the card. Each is a pointer and a count of ELEMENTS. A
+ * table of any other length than below, zero too, gets NK_CARD_UNFIT and is not changed.
  *
- * LENDING. What is passed is borrowed for the call alone. A pointer that has a count may be null if the count is 0; `len`,
- * `degrees` and `phase` may not be null. What is lent to one call may not overlap: tables, frame, answer buffer and image, and
- * of nk_step `sent`, `states`, `answer` and `frame`; nor may *len, *degrees or *phase lie in any of these. While a call holds a
- * table that is not const, no other call may hold it; calls on different cards are independent. In an answer buffer, a frame
- * buffer or an image's buffer the bytes after those that the call gives are never written.
+ * ARGUMENTS. The library uses what is passed during the call and keeps no pointer to it. A pointer that has a count may be null
+ * if the count is 0; `len`, `degrees` and `phase` may not be null. The arguments of one call may not overlap in memory: tables,
+ * frame, answer buffer and image, and of nk_step `sent`, `states`, `answer` and `frame`; nor may *len, *degrees or *phase lie in
+ * any of these. While a call uses a table that is not const, no other call may use it; calls on different cards are
+ * independent. In an answer buffer, a frame buffer or an image's buffer the bytes after those that the call writes never change.
  *
  * REFUSALS. Every entry takes all inputs and returns one of the numbers below. A number of 2 or more changes no table and
  * writes nothing but the wire bytes of that refusal, whose count is in *len (0 for none). *len is written by every call that
- * has one, and so is *phase by every step.
+ * has one, and *phase by every step. docs/FIRMWARE.md says what to do on 11, 12, 13 and 14.
  *
- * WORST CASES. Every call ends, recurses nowhere and loops only over tables, frames and fields of bounded length. The figure
- * with each entry is the dearest call measured on x86-64, in instructions, and the stack bytes of every call
+ * WORST CASES. Every call ends, does not recurse, and loops only over tables, frames and fields of bounded length. The figures
+ * with each entry are the instructions of the most expensive call measured on x86-64, and the most stack bytes of any call
  * (docs/PERFORMANCE.md).
  */
 #ifndef NAKSHVILOR_H
@@ -73,7 +73,7 @@ enum {
 #define NK_CODES 0u          /* four probe codes; 255 is a failed probe */
 #define NK_WRITABLE 16u      /* the first byte that a Datalink change may name */
 
-/* Places in pending. Zero NK_KIND means that nothing is pending; the rest is then not looked at. */
+/* Places in pending. If NK_KIND is 0, nothing is pending and the rest has no meaning. */
 #define NK_KIND 0u           /* 0 none, 1 Change, 2 Change Bits */
 #define NK_NUM 1u            /* NUM as received */
 #define NK_LOW_ADDRESS 2u
@@ -99,8 +99,8 @@ uint8_t nk_governor(const uint32_t *words, size_t words_count, const uint8_t *me
 /* One whole request of a dialect. `frame` is the request as received; the answer is written to the front of `answer`
  * (at least NK_ROOM bytes, else NK_BUFFER_SHORT) and its length to *len, which is 0 where nothing is to be sent.
  *
- * The longest frame has 38 bytes in Datalink, 25 in LECOM, 32 in Love and 259 in LucidControl: size the receive buffer by it. A
- * longer one, handed over whole, is NK_FRAME_FORM with nothing to be sent.
+ * The longest frame has 38 bytes in Datalink, 25 in LECOM, 32 in Love and 259 in LucidControl: the receive buffer needs that
+ * many. A longer frame, passed whole, is NK_FRAME_FORM with nothing to be sent.
  *
  * Worst cases: Datalink 985 instructions and 120 bytes of stack, LECOM 1139 and 120, Love 1061 and 136, LucidControl 780 and
  * 120. */
@@ -123,7 +123,7 @@ uint8_t nk_write_image(const uint32_t *words, size_t words_count, const uint8_t 
                        const uint8_t *pending, size_t pending_count, uint8_t *image, size_t image_count, size_t *len);
 
 /* Reads an image: the addresses, saved registers, saved parameters and Love parameters of the card become the image's.
- * NK_DONE; NK_CARD_UNFIT for the card as lent, NK_IMAGE_LENGTH, NK_IMAGE_PADDING, or NK_CARD_UNFIT for an entry of the
+ * NK_DONE; NK_CARD_UNFIT for the card before the call, NK_IMAGE_LENGTH, NK_IMAGE_PADDING, or NK_CARD_UNFIT for an entry of the
  * image outside its range. Worst case: 16079 instructions, 120 bytes of stack. */
 uint8_t nk_read_image(uint32_t *words, size_t words_count, const uint8_t *memory, size_t memory_count,
                       const uint8_t *pending, size_t pending_count, const uint8_t *image, size_t image_count);
@@ -131,15 +131,15 @@ uint8_t nk_read_image(uint32_t *words, size_t words_count, const uint8_t *memory
 /* The line master's step: the host's side of one Datalink exchange (change, acknowledge, read back).
  *
  * A request is `kind`, the unit's I.A., a 16-bit address, and what is to be written: for NK_BYTES `sent` holds the bytes (at
- * most 32) and `states` is not looked at; for any other kind `sent` holds the masks and `states` the states (at most 16 each).
- * *phase starts as NK_NEW and is handed from step to step with the same request. `answer` is the answer to the frame last
- * sent, or nothing (count 0). The step writes the next frame to the front of `frame` (at least NK_ROOM bytes) and its length
- * to *len.
+ * most 32) and `states` is not used; for any other kind `sent` holds the masks and `states` the states (at most 16 each).
+ * *phase starts as NK_NEW; pass it unchanged, with the same request, from one step to the next. `answer` is the answer to the
+ * frame last sent, or nothing (count 0). The step writes the next frame to the front of `frame` (at least NK_ROOM bytes) and its
+ * length to *len.
  *
  * NK_ANSWERED: send the frame. NK_DONE: the exchange has ended, *phase says how: NK_ENDED_DONE (every byte, or every forced
- * bit, was read back as asked) or NK_ENDED_UNKNOWN. Refused, with nothing sent and no step moved: NK_VALUE_OUTSIDE for the
- * request, NK_BUFFER_SHORT, NK_NOTHING_PENDING after the end. A phase outside the list counts as NK_ENDED_UNKNOWN, and is then
- * stored as that. Worst case: 504 instructions, 184 bytes of stack. */
+ * bit, was read back as asked) or NK_ENDED_UNKNOWN. Refused, with nothing to be sent and the phase as it was: NK_VALUE_OUTSIDE
+ * for the request, NK_BUFFER_SHORT, NK_NOTHING_PENDING after the end. A phase outside the list counts as NK_ENDED_UNKNOWN, and
+ * is then stored as that. Worst case: 504 instructions, 184 bytes of stack. */
 enum { NK_BYTES = 0, NK_BITS = 1 };
 enum {
     NK_NEW = 0,

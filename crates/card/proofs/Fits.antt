@@ -16,6 +16,7 @@ use Rattle.card.specs.Change.{fitPending, noChange}
 use Rattle.card.specs.Fitness.{inSpan, inRange, fitWords, fit, demandMost}
 use Rattle.card.specs.Probe.{faultCode}
 use Rattle.card.specs.Entries.{withCode, setCode, registersTo, restoredRegisters, restoredParameters, fullDemands, faulted, dropped, restarted, restart}
+use Rattle.card.specs.Governor.{governorReply}
 use Rattle.card.specs.Reply.{Reply, onWords, WordsReply, shell, guarded}
 use Rattle.card.proofs.Facts.{fit-from, fit-facts}
 use Rattle.card.proofs.Ranges.{at-demand, at-register, parameter-copy, put-fit, copied-fit}
@@ -108,3 +109,6 @@ restart-stays-fit card e =
     (fit-from (restarted card) (g .long)
     (length-put (card .memory) 0 (replicate channels faultCode) (omega (arith, t .memory-length)) ∙ t .memory-length)
     (length-dropped (card .pending) ∙ t .pending-length) (g .fits) (dropped-fit (card .pending)))
+
+pub governor-stays-fit : (card : Card) (channel : ℕ) → fit card ≡ true → IsFit (governorReply card channel)
+governor-stays-fit card channel e = e

@@ -4,6 +4,8 @@ pub mod Facts
 pub mod Replies
 pub mod Sweep
 pub mod Floats
+pub mod Governed
 pub mod Probes
 pub mod Laws
 pub mod Fits
+pub mod Computed

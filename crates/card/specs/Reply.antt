@@ -25,6 +25,11 @@ silent number card = record { number = number; bytes = []; card = card }
 abbrev pub sent : ℕ → List ℕ → Card → Reply
 sent number bytes card = record { number = number; bytes = bytes; card = card }
 
+-- the same number and the same wire bytes
+pub record SameAnswer (a b : Reply) : Type 0 where
+  pub number : a .number ≡ b .number
+  pub bytes : a .bytes ≡ b .bytes
+
 -- a reply of a dialect that changes words alone: the number, the answer's bytes and the words as they then stand
 pub record WordsReply : Type 0 where
   pub number : ℕ

@@ -9,7 +9,7 @@ ghost use mathlib.Core.Path.{_≡_};
 ghost use Prim.Native.Nat.{_<_};
 ghost use Rattle.card.specs.Layout.{cardOf};
 ghost use Rattle.card.specs.Probe.{faultCode};
-ghost use Rattle.card.specs.Governor.{degreesOf, toldOf, governorOf};
+ghost use Rattle.card.specs.Governor.{degreesOf, toldOf, GovernorTold};
 
 pub enum Governor {
     Degrees(f32),
@@ -37,7 +37,10 @@ fn told(code: u8) -> Governor
 
 // What the governor is told of a channel.
 pub fn governor_reading(words: &[u32], memory: &[u8], pending: &[u8], channel: u32) -> Governor
-    ensures { λ r. ⌜ r ≡ governorOf (cardOf (now (words .entry)) (now (memory .entry)) (now (pending .entry))) channel ⌝ }
+    ensures { λ r.
+        let before = cardOf (now (words .entry)) (now (memory .entry)) (now (pending .entry)) in
+        let after = cardOf (now (words .entry)) (now (memory .entry)) (now (pending .entry)) in
+        ⌜ GovernorTold before channel r after ⌝ }
 {
     if !is_fit(words, memory, pending) {
         return Governor::Refused(CARD_UNFIT);

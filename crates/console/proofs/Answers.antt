@@ -6,7 +6,7 @@ use native.Mathlib.Omega.{arith}
 use borrow.Author.Needs.{needs}
 use lib.Dec.{T}
 use lib.Ieee.{odd, isNan}
-use lib.ListN.{length, getD, length-append}
+use lib.ListN.{length, length-append}
 use Rattle.wire.specs.Buffer.{overlay}
 use Rattle.wire.proofs.Cases.{by-choice}
 use Rattle.card.specs.Layout.{Card}
@@ -15,10 +15,8 @@ use Rattle.card.specs.Reply.{Reply, Gave}
 use Rattle.master.specs.declared.Phase.{Phase}
 use Rattle.master.specs.Step.{Move, Stepped}
 use Rattle.card.specs.declared.governor.Governor.the-variants.{Degrees}
-use Rattle.card.specs.Governor.{degreesOf, toldBy, toldOf, governorOf}
-use Rattle.card.specs.Probe.{readingOf}
-use Rattle.card.specs.declared.probe.Reading.{Reading}
-use Rattle.card.specs.declared.probe.Reading.the-variants.{Temperature, Fault as Failed}
+use Rattle.card.specs.Governor.{degreesOf, governorOf}
+use Rattle.card.proofs.Governed.{governor-cases}
 use Rattle.lines.specs.Text.{isReal}
 
 -- an entry's answer is in the buffer
@@ -43,15 +41,5 @@ degrees-real : (code : ℕ) → T (isReal (Degrees (degreesOf code)))
 unfolding degreesOf
 degrees-real code = by-choice (λ d. T (isReal (Degrees d))) _ _ _ (λ _. odd-real _ _ _ _ _) (λ _. odd-real _ _ _ _ _)
 
-told-real : (r : Reading) (code : ℕ) → T (isReal (toldBy r code))
-told-real (Temperature tenths) code = degrees-real code
-told-real Failed code = tt
-
 pub governor-real : (card : Card) (channel : ℕ) → T (isReal (governorOf card channel))
-unfolding governorOf toldOf
-governor-real card channel =
-    by-choice (λ g. T (isReal g)) _ _ _
-    (λ _. by-choice (λ g. T (isReal g)) _ _ _
-    (λ _. told-real (readingOf (getD (card .memory) channel 0)) (getD (card .memory) channel 0))
-    (λ _. tt))
-    (λ _. tt)
+governor-real card channel = governor-cases (λ g. T (isReal g)) card channel (λ _. degrees-real _) tt tt tt

@@ -9,21 +9,7 @@ use Rattle.wire.specs.Buffer.{part}
 use Rattle.wire.specs.Sum.{sumOf}
 use Rattle.card.specs.Numbers.{foreignAddress, frameForm, checkCharacter, commandUnknown, rangeUnknown, readOnly}
 use Rattle.card.specs.Change.{noChange, change, changeBits, named, numRight, inMemory, namesReadOnly, addressOf}
-use Rattle.datalink.specs.Form.{
-  lengthRight,
-  start,
-  iaValues,
-  interrogateBits,
-  changeCommandBits,
-  changeBitsBits,
-  acknowledgeBits,
-  secondAt,
-  frameNumAt,
-  frameLowAddressAt,
-  frameHighAddressAt,
-  acknowledgeSize,
-  bareSize,
-}
+use Rattle.datalink.specs.Form.{lengthRight, start, iaValues, interrogateBits, changeCommandBits, changeBitsBits, acknowledgeBits, secondAt, frameNumAt, frameLowAddressAt, frameHighAddressAt, acknowledgeSize, bareSize}
 use Rattle.datalink.specs.declared.frame.Order.{Order}
 use Rattle.datalink.specs.declared.frame.Order.the-variants.{Silent, Interrogate, Change, Acknowledge}
 

@@ -9,24 +9,15 @@ use borrow.Author.Tests.{leb-true}
 use lib.Dec.{leb}
 use lib.ListN.{replicate}
 use Rattle.wire.proofs.Tests.{and-true}
-use Rattle.wire.specs.Choose.{choose}
-use Rattle.wire.specs.Buffer.{put, overlay, same}
-use Rattle.wire.specs.Sum.{total, sumOf}
+use Rattle.wire.proofs.Computed.{computed as wire-computed}
+use Rattle.card.proofs.Computed.{computed as card-computed}
+use Rattle.datalink.proofs.Computed.{computed as datalink-computed}
+use Rattle.master.proofs.Computed.{computed as master-computed}
 use Rattle.card.specs.Layout.{Card, cardOf, memorySize, dataMost, pendingSize}
-use Rattle.card.specs.Change.{change, inMemory, namesReadOnly, named, numRight, echoable, addressOf, fitPending}
-use Rattle.card.specs.Fitness.{inSpan, fitWords, fit}
-use Rattle.card.specs.Scans.{allIn, fitAddresses, fitParameters}
+use Rattle.card.specs.Change.{change}
 use Rattle.card.specs.Start.{startWords}
-use Rattle.card.specs.Reply.{shell, guarded}
-use Rattle.card.specs.Entries.{withCode, setCode, fullDemands, restoredParameters, registersTo, restoredRegisters, dropped, faulted, restarted, restart}
-use Rattle.datalink.specs.Frame.{iaIn, commandIn, numIn, addressIn, commandKnown, kindOf, kindIn, namedIn, isAcknowledge, carried, formRight, lrcRight, rangeRight, changeAllowed, changeRight, asked}
-use Rattle.datalink.specs.Form.{framed, lengthRight}
-use Rattle.datalink.specs.Stages.{orderIn}
-use Rattle.datalink.specs.Answer.{response, iaOf, shown, interrogated, bodyOf, pended, echoed, newByte, changed, appliedTo, applied, acknowledged, obeyed, datalinkReply}
-use Rattle.master.specs.Request.{Request, askable, asAsked}
+use Rattle.master.specs.Request.{Request}
 use Rattle.master.specs.Request.Ask.{bytes}
-use Rattle.master.specs.Frames.{changeFrame, acknowledgeFrame, interrogateFrame, echo, isEcho, isResponse, allAsked, confirms}
-use Rattle.master.specs.Step.{move, stepOf}
 use Rattle.calls.specs.Calls.{frameReply, replyOf, refused, asksWrite}
 use Rattle.exchange.specs.Calls.{Call}
 use Rattle.exchange.specs.Calls.Choice.{none, answer}
@@ -36,7 +27,7 @@ use Rattle.exchange.specs.Premise.{AtMostTwice, Quiet, AsWorded}
 
 -- to unfold this is to unfold every definition of a run
 unfoldable pub computed : Unit {0}
-unfolding choose put overlay total sumOf inSpan inMemory namesReadOnly named numRight echoable addressOf fitPending inRange inRanges fitWords fit shell guarded withCode setCode fullDemands restoredParameters registersTo restoredRegisters dropped faulted restarted restart iaIn commandIn numIn addressIn framed commandKnown kindOf kindIn namedIn isAcknowledge carried lengthRight formRight lrcRight rangeRight changeAllowed changeRight orderIn asked response iaOf shown interrogated bodyOf pended echoed newByte changed appliedTo applied acknowledged obeyed datalinkReply askable asAsked changeFrame acknowledgeFrame interrogateFrame same echo isEcho isResponse allAsked confirms move stepOf frameReply replyOf closing afterStep afterArrival afterRestart called run
+unfolding wire-computed card-computed datalink-computed master-computed frameReply replyOf closing afterStep afterArrival afterRestart called run
 computed = tt
 
 -- the premise word for word, as a test

@@ -1,36 +1,24 @@
 -- Writable memory and the pending change under each call of the card. Assumes nothing.
-use mathlib.Core.Path.{_≡_, refl, sym, ap, ap₂, _∙_, subst}
+use mathlib.Core.Path.{_≡_, refl, ap, ap₂, _∙_}
 use mathlib.Core.Bool.{Bool, true, false, _&&_, not}
-use mathlib.Core.List.{List, [], _∷_, _++_}
-use mathlib.Core.Logic.{_⊎_}
-use mathlib.Core.Logic._⊎_.{inl, inr}
+use mathlib.Core.List.{List, _∷_, _++_}
 use Prim.Native.Nat.{ℕ, zero, suc, _+_, _-_, _*_, _%_, _/_, _≤_, _<_}
 use native.Mathlib.Omega.{arith}
-use borrow.Author.Tests.{leb-true, ltb-true, ltb-false, eqb-true, eqb-false}
+use borrow.Author.Tests.{leb-true, ltb-false, eqb-true, eqb-false}
 use lib.Bits.{bitAnd, bitOr}
 use lib.Dec.{leb, ltb, eqb}
-use lib.ListN.{length, getD, drop, set, replicate, List·getD-append}
-use lib.Seq.{getD-drop, getD-append-add, getD-set-same, getD-set-other}
+use lib.ListN.{length, getD, set, List·getD-append}
+use lib.Seq.{getD-set-same, getD-set-other}
 use Rattle.wire.proofs.Tests.{and-true}
 use Rattle.wire.specs.Choose.{choose}
-use Rattle.wire.specs.Buffer.{put, overlay}
-use Rattle.wire.proofs.Cases.{by-choice}
-use Rattle.card.specs.Numbers.{cardUnfit, bufferShort, rangeUnknown, imageLength, imagePadding, answered}
-use Rattle.card.specs.Layout.{Card, channels, kindAt}
-use Rattle.card.specs.Change.{memoryStart, memoryEnd, writableStart, inMemory, namesReadOnly, noChange, addressOf}
+use Rattle.wire.specs.Buffer.{overlay}
+use Rattle.card.specs.Layout.{Card}
+use Rattle.card.specs.Change.{memoryStart, memoryEnd, writableStart, inMemory, namesReadOnly, addressOf}
 use Rattle.card.specs.Fitness.{fit}
-use Rattle.card.specs.Probe.{faultCode}
-use Rattle.card.specs.Reply.{Reply, silent, sent, shell, guarded, roomLeast}
-use Rattle.card.specs.Entries.{dropped, faulted, restarted, restart, withCode, setCode}
+use Rattle.card.specs.Reply.{sent}
 use Rattle.card.proofs.Facts.{fit-facts}
 use Rattle.datalink.specs.Answer.{newByte, changed, appliedTo, applied, pended}
 use Rattle.datalink.proofs.Fits.{length-changed}
-use Rattle.lecom.specs.Answer.{lecomReply}
-use Rattle.love.specs.Answer.{loveReply}
-use Rattle.lucid.specs.Answer.{lucidReply}
-use Rattle.image.specs.Form.{imageSize}
-use Rattle.image.specs.Saved.{imageOf, paddingOf, restored}
-use Rattle.image.specs.Entries.{writeImage, readImage}
 use Rattle.master.specs.Request.{Ask, Request, namedBy, paired, asAsked}
 use Rattle.master.specs.Request.Ask.{bytes, bits}
 use Rattle.master.specs.Accepted.{Accepted}

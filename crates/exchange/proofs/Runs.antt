@@ -22,7 +22,7 @@ use Rattle.master.specs.Step.{saysOf}
 use Rattle.master.specs.declared.Phase.{Phase}
 use Rattle.master.specs.declared.Verdict.{Verdict}
 use Rattle.master.specs.declared.Verdict.the-variants.{Open, Done, Unknown}
-use Rattle.calls.specs.Calls.{frameReply, replyOf}
+use Rattle.calls.specs.Calls.{replyOf}
 use Rattle.calls.specs.Calls.Dialect.{Datalink}
 use Rattle.calls.specs.Calls.Call.{SetCode, Restart, Frame, ReadImage}
 use Rattle.exchange.specs.Calls.{Call}

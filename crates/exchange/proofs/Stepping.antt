@@ -7,7 +7,7 @@ use mathlib.Core.Logic._⊎_.{inl, inr}
 use Prim.{Unit, tt}
 use Prim.Native.Nat.{ℕ, zero, suc, _+_, _-_, _<_}
 use native.Mathlib.Omega.{arith}
-use lib.Dec.{leb, ltb, eqb}
+use lib.Dec.{leb, ltb}
 use lib.ListN.{length, getD}
 use Rattle.wire.proofs.Tests.{and-true}
 use Rattle.wire.specs.Choose.{choose}

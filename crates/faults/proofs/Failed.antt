@@ -1,121 +1,115 @@
--- The theorem of specs/NoTemperature.antt, dialect by dialect. Assumes nothing.
-use Prim.Native.Nat.{ℕ, _+_, _-_, _<_}
-use mathlib.Core.Path.{_≡_, refl, sym, ap, _∙_}
+-- The theorem of specs/NoTemperature.antt: the governor, the dialects, and the entries that are never asked for a probe. Assumes nothing.
+use Prim.Native.Nat.{ℕ, _<_}
+use mathlib.Core.Path.{_≡_, refl, sym, ap, _∙_, subst}
 use mathlib.Core.Bool.{Bool, true, false}
-use mathlib.Core.Logic.{_⊎_, inl, inr, ⊎-elim}
-use mathlib.Core.List.{List, []}
+use mathlib.Core.List.{List}
 use native.Mathlib.Omega.{arith}
-use borrow.Author.Tests.{eqb-true, eqb-false, ltb-false}
-use lib.Dec.{eqb, ltb, leb}
-use lib.ListN.{getD, set, length-set}
-use lib.Seq.{getD-set-other}
+use borrow.Author.Tests.{lt-ltb}
+use lib.Dec.{ltb, eqb}
+use lib.ListN.{length, getD}
 use Rattle.wire.specs.Choose.{choose}
-use Rattle.wire.proofs.Cases.{by-choice}
+use Rattle.wire.proofs.Cases.{yes, no}
+use Rattle.card.specs.Numbers.{answered, done, rangeUnknown, probeFault, cardUnfit, imageLength, imagePadding}
 use Rattle.card.specs.Layout.{Card, channels}
 use Rattle.card.specs.Fitness.{fit}
-use Rattle.card.specs.Probe.{faultCode, readingOf}
+use Rattle.card.specs.Probe.{readingOf, tenthsOf}
+use Rattle.card.specs.Entries.{withCode, setCode, restart}
+use Rattle.card.specs.Governor.{toldBy, toldOf, governorOf, numberOf, valuesOf}
+use Rattle.card.specs.Reply.{Reply, SameAnswer, silent}
 use Rattle.card.specs.declared.probe.Reading.{Reading}
-use Rattle.card.proofs.Probes.{fault-read}
-use Rattle.card.specs.Entries.{withCode}
-use Rattle.card.specs.Governor.{governorOf, toldBy, toldOf, valuesOf}
-use Rattle.card.specs.Numbers.{bufferShort, cardUnfit}
-use Rattle.card.specs.Reply.{WordsReply, onWords, silent, shell, roomLeast, leaving}
-use Rattle.card.specs.declared.governor.Governor.{Governor}
-use Rattle.lecom.specs.Frame.{firstProbe, asked as lecomAsked}
-use Rattle.lecom.specs.Answer.{readAnswer, obeyed as lecomObeyed, addressOf as lecomAddress, lecomReply}
-use Rattle.lecom.specs.declared.frame.Order.{Order as LecomOrder}
-use Rattle.lecom.specs.declared.frame.Order.the-variants.{Unheard, Refused as LecomRefused, Read as LecomRead, Write as LecomWrite}
-use Rattle.lecom.proofs.Laws.{fault as lecom-fault}
-use Rattle.love.specs.Frame.{asked as loveAsked}
-use Rattle.love.specs.Answer.{obeyed as loveObeyed, addressOf, loveReply}
-use Rattle.love.specs.declared.frame.Order.{Order as LoveOrder}
-use Rattle.love.specs.declared.frame.Order.the-variants.{Silent, Refused as LoveRefused, Probe, Read as LoveRead, Write as LoveWrite}
-use Rattle.love.proofs.Laws.{fault as love-fault}
-use Rattle.lucid.specs.Answer.{lucidWords, lucidReply, asksProbe}
-use Rattle.lucid.proofs.Laws.{fault as lucid-fault, asked-alone}
-use Rattle.faults.specs.NoTemperature.{SameAnswer, lucidFault, NoTemperature}
+use Rattle.card.specs.declared.probe.Reading.the-variants.{Temperature, Fault as Unread}
+use Rattle.card.specs.declared.governor.Governor.the-variants.{Fault, Refused}
+use Rattle.image.specs.Form.{imageSize}
+use Rattle.image.specs.Saved.{paddingOf, restored}
+use Rattle.image.specs.Entries.{unless, writeImage, readImage}
+use Rattle.faults.specs.NoTemperature.{asWritten, Failed, Says, ToldApart, GovernorOwes, Unasked, NoTemperature}
+use Rattle.faults.proofs.Codes.{failed-read, code-fit, code-other, warm-read, shell-same, guarded-same}
+use Rattle.faults.proofs.LecomFaults.{lecom-owes}
+use Rattle.faults.proofs.LoveFaults.{love-owes}
+use Rattle.faults.proofs.LucidFaults.{lucid-owes}
+use Rattle.faults.proofs.DatalinkFaults.{datalink-owes}
 
--- another code does not change which card is fit, so an answer over the words alone passes the shell in the same way
-module _ (card : Card) (channel code room : ℕ) where
-  fit-same : fit (withCode card channel code) ≡ fit card
-  unfolding fit withCode
-  fit-same = rw length-set
-
-  shell-same : (x y : WordsReply) → x ≡ y → SameAnswer (shell roomLeast card room (onWords card x)) (shell roomLeast (withCode card channel code) room (onWords (withCode card channel code) y))
-  unfolding shell choose
-  shell-same x y e = rw fit-same (by (fit card) (leb roomLeast room))
-    where
-      by : (t u : Bool)
-          → SameAnswer (choose t (choose u (onWords card x) (silent bufferShort card)) (silent cardUnfit card))
-          (choose t (choose u (onWords (withCode card channel code) y) (silent bufferShort (withCode card channel code))) (silent cardUnfit (withCode card channel code)))
-      by true true = record { numbers = ap (λ (r : WordsReply). r .number) e; bytes = ap (λ (r : WordsReply). r .bytes) e }
-      by true false = record { numbers = refl; bytes = refl }
-      by false u = record { numbers = refl; bytes = refl }
-
-module _ (channel code : ℕ) (words memory : List ℕ) where
-  -- a read of anything but this channel's probe
-  lecom-read : (f : List ℕ) (asks : ℕ) → (asks ≡ firstProbe + channel → ⊥) → readAnswer words memory f asks ≡ readAnswer words (set memory channel code) f asks
-  unfolding readAnswer choose
-  lecom-read f asks other = by (ltb asks firstProbe) refl
-    where
-      by : (t : Bool) → ltb asks firstProbe ≡ t → readAnswer words memory f asks ≡ readAnswer words (set memory channel code) f asks
-      by true e = rw e
-      by false e =
-          let away : asks - firstProbe ≡ channel → ⊥ = λ d. other (omega (arith, ltb-false asks firstProbe e)) in
-          rw (e, getD-set-other memory channel (asks - firstProbe) code 0 away)
-
-  lecom-either : (f : List ℕ) (o : LecomOrder) → (o ≡ LecomRead (firstProbe + channel)) ⊎ (lecomObeyed words memory f o ≡ lecomObeyed words (set memory channel code) f o)
-  unfolding lecomObeyed
-  lecom-either f (Unheard number) = inr refl
-  lecom-either f (LecomRefused number) = inr refl
-  lecom-either f (LecomRead asks) = by (eqb asks (firstProbe + channel)) refl
-    where
-      by : (t : Bool) → eqb asks (firstProbe + channel) ≡ t → (LecomRead asks ≡ LecomRead (firstProbe + channel)) ⊎ (lecomObeyed words memory f (LecomRead asks) ≡ lecomObeyed words (set memory channel code) f (LecomRead asks))
-      by true e = inl (ap LecomRead (eqb-true asks (firstProbe + channel) e))
-      by false e = inr (ap (leaving words) (lecom-read f asks (eqb-false asks (firstProbe + channel) e)))
-  lecom-either f (LecomWrite asks value) = inr refl
-
-  love-either : (o : LoveOrder) → ((o ≡ Probe) × (channel ≡ 0)) ⊎ (loveObeyed words memory o ≡ loveObeyed words (set memory channel code) o)
-  unfolding loveObeyed
-  love-either (Silent number) = inr refl
-  love-either (LoveRefused number why) = inr refl
-  love-either Probe = by (eqb channel 0) refl
-    where
-      by : (t : Bool) → eqb channel 0 ≡ t → ((Probe ≡ Probe) × (channel ≡ 0)) ⊎ (loveObeyed words memory Probe ≡ loveObeyed words (set memory channel code) Probe)
-      by true e = inl (refl, eqb-true channel 0 e)
-      by false e = inr (rw (getD-set-other memory channel 0 code 0 (λ d. eqb-false channel 0 e (sym d))))
-  love-either (LoveRead k) = inr refl
-  love-either (LoveWrite k word) = inr refl
-
-  -- a frame that does not ask for this channel's probe
-  lucid-other : (f : List ℕ) → asksProbe f channel ≡ false → lucidWords words memory f ≡ lucidWords words (set memory channel code) f
-  lucid-other f other =
-      asked-alone words memory (set memory channel code) f
-      (λ k h asks. sym (getD-set-other memory channel k code 0 (λ e. let z : _≡_ {A = ℕ} 0 1 = cc (ap (asksProbe f) e) in omega arith)))
-
-no-degrees : (card : Card) (channel : ℕ) → getD (card .memory) channel 0 ≡ faultCode → valuesOf (governorOf card channel) ≡ []
+-- what the governor is told of a channel, by its reading
+told-as : (card : Card) (channel : ℕ) (reading : Reading) → fit card ≡ true → channel < channels → readingOf (getD (card .memory) channel 0) ≡ reading
+    → governorOf card channel ≡ toldBy reading (getD (card .memory) channel 0)
 unfolding governorOf toldOf
-no-degrees card channel failed =
-    by-choice (λ (g : Governor). valuesOf g ≡ []) (fit card) _ _
-    (λ _. by-choice (λ (g : Governor). valuesOf g ≡ []) (ltb channel channels) _ _
-    (λ _. ap (λ (r : Reading). valuesOf (toldBy r (getD (card .memory) channel 0))) (ap readingOf failed ∙ fault-read))
-    (λ _. refl))
-    (λ _. refl)
+told-as card channel reading e h r = sym (yes _ _ _ _ e (yes _ _ _ _ (lt-ltb channel channels h) (ap (λ (x : Reading). toldBy x (getD (card .memory) channel 0)) (sym r))))
 
-pub no-temperature : (card : Card) (channel code room : ℕ) (f : List ℕ) → channel < channels → getD (card .memory) channel 0 ≡ faultCode → NoTemperature card channel code room f
-unfolding withCode lecomReply loveReply lucidReply
-no-temperature card channel code room f inside failed =
+governor-fault : (card : Card) (channel : ℕ) → fit card ≡ true → Failed card channel → Says Fault 9 (governorOf card channel)
+governor-fault card channel e x = subst (Says Fault 9) (sym (told-as card channel Unread e (x .inside) (failed-read card channel x))) (record { word = refl; number = refl; values = refl })
+
+governor-apart : (card : Card) (channel code : ℕ) → fit card ≡ true → Failed card channel → code < 255 → ToldApart (governorOf card channel) (governorOf (withCode card channel code) channel)
+governor-apart card channel code e x below =
+    let is = governor-fault card channel e x in
+    let warm = withCode card channel code in
+    let was = told-as warm channel (Temperature (record { 0 = tenthsOf code })) (code-fit card channel code ∙ e) (x .inside) (warm-read card channel code e (x .inside) below) in
     record {
-      governor = no-degrees card channel failed;
-      lecom =
-          ⊎-elim (λ o. inl (lecom-fault card room f channel inside o failed)) (λ e. inr (shell-same card channel code room _ _ e))
-          (lecom-either channel code (card .words) (card .memory) f (lecomAsked (lecomAddress (card .words)) f));
-      love =
-          ⊎-elim (λ o. inl (love-fault card room f (o .0) (ap (λ (k : ℕ). getD (card .memory) k 0) (sym (o .1)) ∙ failed))) (λ e. inr (shell-same card channel code room _ _ e))
-          (love-either channel code (card .words) (card .memory) (loveAsked (addressOf (card .words)) f));
-      lucid = by (asksProbe f channel) refl;
+      number = λ same. let z : _≡_ {A = ℕ} probeFault answered = sym (is .number) ∙ same ∙ ap numberOf was in omega (arith, z);
+      values = λ same. let z : _≡_ {A = ℕ} 0 1 = ap length (sym (is .values) ∙ same ∙ ap valuesOf was) in omega (arith, z);
     }
+
+governor-same : (card : Card) (channel code other : ℕ) → channel < channels → (other ≡ channel → ⊥) → governorOf card other ≡ governorOf (withCode card channel code) other
+unfolding governorOf
+governor-same card channel code other h n = rw (code-fit card channel code, ← code-other card channel code other n)
+
+governor-owes : GovernorOwes governorOf
+unfolding governorOf
+governor-owes =
+    record {
+      unfit = λ card channel e. subst (Says (Refused 12) 12) (no _ _ _ _ e refl) (record { word = refl; number = refl; values = refl });
+      fault = governor-fault;
+      apart = governor-apart;
+      same = governor-same;
+    }
+
+-- the other entries
+
+set-code-same : (into value : ℕ) → Unasked (λ card. setCode card into value)
+unfolding setCode choose
+set-code-same into value card channel code h = guarded-same card channel code _ _ (by (ltb into channels))
   where
-    by : (t : Bool) → asksProbe f channel ≡ t → (lucidReply card room f ≡ lucidFault card room) ⊎ SameAnswer (lucidReply card room f) (lucidReply (withCode card channel code) room f)
-    by true asks = inl (lucid-fault card room f channel inside asks failed)
-    by false other = inr (shell-same card channel code room _ _ (lucid-other channel code (card .words) (card .memory) f other))
+    by : (t : Bool) → SameAnswer (choose t (silent done (withCode card into value)) (silent rangeUnknown card)) (choose t (silent done (withCode (withCode card channel code) into value)) (silent rangeUnknown (withCode card channel code)))
+    by true = record { number = refl; bytes = refl }
+    by false = record { number = refl; bytes = refl }
+
+restart-same : Unasked restart
+unfolding restart
+restart-same card channel code h = guarded-same card channel code _ _ (record { number = refl; bytes = refl })
+
+write-same : (room : ℕ) → Unasked (λ card. writeImage card room)
+unfolding writeImage withCode
+write-same room card channel code h = shell-same card channel code imageSize room _ _ (record { number = refl; bytes = refl })
+
+-- a test passed or refused alike
+unless-same : (t : Bool) (n : ℕ) (c d : Card) (x y : Reply) → SameAnswer x y → SameAnswer (unless t n c x) (unless t n d y)
+unfolding choose
+unless-same true n c d x y s = s
+unless-same false n c d x y s = record { number = refl; bytes = refl }
+
+restored-fit : (card : Card) (channel code : ℕ) (img : List ℕ) → fit (restored (withCode card channel code) img) ≡ fit (restored card img)
+unfolding restored withCode
+restored-fit card channel code img = code-fit (restored card img) channel code
+
+read-same : (img : List ℕ) → Unasked (λ card. readImage card img)
+unfolding readImage
+read-same img card channel code h =
+    rw (code-fit card channel code, restored-fit card channel code img)
+    (unless-same (fit card) cardUnfit _ _ _ _
+    (unless-same (eqb (length img) imageSize) imageLength _ _ _ _
+    (unless-same (eqb (paddingOf img) 0) imagePadding _ _ _ _
+    (unless-same (fit (restored card img)) cardUnfit _ _ _ _
+    (record { number = refl; bytes = refl })))))
+
+pub no-temperature : NoTemperature asWritten
+no-temperature =
+    record {
+      governor = governor-owes;
+      lecom = lecom-owes;
+      love = love-owes;
+      lucid = lucid-owes;
+      datalink = datalink-owes;
+      setCode = set-code-same;
+      restart = restart-same;
+      writeImage = write-same;
+      readImage = read-same;
+    }

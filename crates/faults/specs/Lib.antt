@@ -1,1 +1,2 @@
+pub mod Dialects
 pub mod NoTemperature

@@ -1,37 +1,124 @@
--- No failed probe is ever a temperature. Code 255 stands in a channel. Whatever the frame, a reply is its dialect's fault reply, in which
--- there is no temperature, or the probe has no part in it: it would be the same with any other code there. The governor gets no degrees.
--- (Datalink shows its memory as it is, 255 too: document 01.)
-use Prim.Native.Nat.{ℕ}
+-- "A failed probe is never answered as a temperature." Code 255 stands in a channel. An entry that is asked for this channel's probe gives
+-- its fault reply, and another reply for every code that is a temperature. An entry that is not asked for it gives the same number and
+-- bytes whatever the code. 12 and 11 come first. docs/PROVED.md says which wrong programs this claim alone lets through.
+use Prim.Native.Nat.{ℕ, _≤_, _<_}
 use mathlib.Core.Path.{_≡_}
-use mathlib.Core.Logic.{_⊎_}
+use mathlib.Core.Bool.{true, false}
 use mathlib.Core.List.{List, []}
-use Rattle.card.specs.Numbers.{answered, probeFault}
-use Rattle.card.specs.Layout.{Card}
-use Rattle.card.specs.Entries.{withCode}
-use Rattle.card.specs.Governor.{governorOf, valuesOf}
-use Rattle.card.specs.Reply.{Reply, onWords, sent, shell, roomLeast, leaving}
-use Rattle.lecom.specs.Answer.{refusedBy, lecomReply}
-use Rattle.love.specs.Answer.{faultReply, addressOf, loveReply}
-use Rattle.lucid.specs.Answer.{faulted, lucidReply}
+use lib.ListN.{getD}
+use Rattle.card.specs.Layout.{Card, channels}
+use Rattle.card.specs.Fitness.{fit}
+use Rattle.card.specs.Entries.{withCode, setCode, restart}
+use Rattle.card.specs.Governor.{governorOf, numberOf, valuesOf}
+use Rattle.card.specs.declared.governor.Governor.{Governor}
+use Rattle.card.specs.declared.governor.Governor.the-variants.{Fault, Refused}
+use Rattle.card.specs.Reply.{Reply, SameAnswer}
+use Rattle.lecom.specs.Answer.{lecomReply}
+use Rattle.love.specs.Answer.{loveReply}
+use Rattle.lucid.specs.Answer.{lucidReply}
+use Rattle.datalink.specs.Answer.{datalinkReply}
+use Rattle.image.specs.Entries.{writeImage, readImage}
+use Rattle.faults.specs.Dialects.{LecomAsks, LecomFault, LecomApart, LoveAsks, LoveFault, LucidAsks, LucidFault, LucidApart, DatalinkAsks, DatalinkFault, OtherBytes}
 
--- the same number and the same wire bytes
-pub record SameAnswer (a b : Reply) : Type 0 where
-  pub numbers : a .number ≡ b .number
-  pub bytes : a .bytes ≡ b .bytes
+-- a card's entries, so that wrong ones can be put to the claim
+pub record Entries : Type 0 where
+  pub governor : Card → ℕ → Governor
+  pub lecom : Card → ℕ → List ℕ → Reply
+  pub love : Card → ℕ → List ℕ → Reply
+  pub lucid : Card → ℕ → List ℕ → Reply
+  pub datalink : Card → ℕ → List ℕ → Reply
+  pub setCode : Card → ℕ → ℕ → Reply
+  pub restart : Card → Reply
+  pub writeImage : Card → ℕ → Reply
+  pub readImage : Card → List ℕ → Reply
 
--- each dialect's fault reply, after 12 and 11: LECOM's NAK with 9 (no byte to a collective address), Love's D and zeros, LucidControl's D0h with 9
-abbrev pub lecomFault : Card → ℕ → List ℕ → Reply
-lecomFault card room f = shell roomLeast card room (onWords card (leaving (card .words) (refusedBy f probeFault)))
+-- the written meanings, which the entries' contracts equate with the code
+abbrev pub asWritten : Entries
+asWritten =
+    record {
+      governor = governorOf;
+      lecom = lecomReply;
+      love = loveReply;
+      lucid = lucidReply;
+      datalink = datalinkReply;
+      setCode = setCode;
+      restart = restart;
+      writeImage = writeImage;
+      readImage = readImage;
+    }
 
-abbrev pub loveFault : Card → ℕ → Reply
-loveFault card room = shell roomLeast card room (sent answered (faultReply (addressOf (card .words))) card)
+-- the probe of a channel has failed
+pub record Failed (card : Card) (channel : ℕ) : Type 0 where
+  pub inside : channel < channels
+  pub code : getD (card .memory) channel 0 ≡ 255
 
-abbrev pub lucidFault : Card → ℕ → Reply
-lucidFault card room = shell roomLeast card room (sent probeFault (faulted .bytes) card)
+-- a number with no wire bytes
+pub record Silent (n : ℕ) (r : Reply) : Type 0 where
+  pub number : r .number ≡ n
+  pub bytes : r .bytes ≡ []
 
--- no entry answers a temperature of the channel, in a buffer of this room and for this frame; code is any other code
-pub record NoTemperature (card : Card) (channel code room : ℕ) (f : List ℕ) : Type 0 where
-  pub governor : valuesOf (governorOf card channel) ≡ []
-  pub lecom : (lecomReply card room f ≡ lecomFault card room f) ⊎ SameAnswer (lecomReply card room f) (lecomReply (withCode card channel code) room f)
-  pub love : (loveReply card room f ≡ loveFault card room) ⊎ SameAnswer (loveReply card room f) (loveReply (withCode card channel code) room f)
-  pub lucid : (lucidReply card room f ≡ lucidFault card room) ⊎ SameAnswer (lucidReply card room f) (lucidReply (withCode card channel code) room f)
+-- What the entry of a dialect owes. `Asks card f channel`: the frame asks for the channel's probe. `IsFault card f channel r`: r is the
+-- dialect's fault reply. `Apart card f channel r s`: the fault reply r is set apart from s, the reply to a temperature
+pub record Owes (entry : Card → ℕ → List ℕ → Reply) (Asks : Card → List ℕ → ℕ → Type 0) (IsFault : Card → List ℕ → ℕ → Reply → Type 0) (Apart : Card → List ℕ → ℕ → Reply → Reply → Type 0) : Type 0 where
+  -- "Number 12 comes first"
+  pub unfit : (card : Card) (room : ℕ) (f : List ℕ) → fit card ≡ false → Silent 12 (entry card room f)
+  -- "then 11 (a dialect's answer buffer below 38 bytes ..)"
+  pub short : (card : Card) (room : ℕ) (f : List ℕ) → fit card ≡ true → room < 38 → Silent 11 (entry card room f)
+  -- the frame asks for a probe that has failed: the fault reply
+  pub fault : (card : Card) (channel room : ℕ) (f : List ℕ) → fit card ≡ true → 38 ≤ room → Failed card channel → Asks card f channel → IsFault card f channel (entry card room f)
+  -- no temperature in that channel gives this reply
+  pub apart : (card : Card) (channel code room : ℕ) (f : List ℕ) → fit card ≡ true → 38 ≤ room → Failed card channel → Asks card f channel → code < 255
+      → Apart card f channel (entry card room f) (entry (withCode card channel code) room f)
+  -- the frame does not ask for the probe: every code in that channel gives the same answer, whatever card and buffer
+  pub same : (card : Card) (channel code room : ℕ) (f : List ℕ) → channel < channels → (Asks card f channel → ⊥) → SameAnswer (entry card room f) (entry (withCode card channel code) room f)
+
+-- the governor was told this word, with this number and no values
+pub record Says (w : Governor) (n : ℕ) (told : Governor) : Type 0 where
+  pub word : told ≡ w
+  pub number : numberOf told ≡ n
+  pub values : valuesOf told ≡ []
+
+-- another number and other values
+pub record ToldApart (a b : Governor) : Type 0 where
+  pub number : numberOf a ≡ numberOf b → ⊥
+  pub values : valuesOf a ≡ valuesOf b → ⊥
+
+-- what the governor's entry owes: it is asked for a channel, and for that channel's probe alone
+pub record GovernorOwes (entry : Card → ℕ → Governor) : Type 0 where
+  -- "the word refused (12, ..)"
+  pub unfit : (card : Card) (channel : ℕ) → fit card ≡ false → Says (Refused 12) 12 (entry card channel)
+  -- "the word fault and no degrees (9)"
+  pub fault : (card : Card) (channel : ℕ) → fit card ≡ true → Failed card channel → Says Fault 9 (entry card channel)
+  -- no temperature in that channel is told so
+  pub apart : (card : Card) (channel code : ℕ) → fit card ≡ true → Failed card channel → code < 255 → ToldApart (entry card channel) (entry (withCode card channel code) channel)
+  -- of any other channel the governor is told the same with every code
+  pub same : (card : Card) (channel code other : ℕ) → channel < channels → (other ≡ channel → ⊥) → entry card other ≡ entry (withCode card channel code) other
+
+-- an entry that is never asked for a probe: every code gives the same answer
+abbrev pub Unasked : (Card → Reply) → Type 0
+Unasked entry = (card : Card) (channel code : ℕ) → channel < channels → SameAnswer (entry card) (entry (withCode card channel code))
+
+-- each dialect by its own terms. Datalink's is the exception: it shows 255 itself, and no temperature code is shown so
+abbrev pub LecomOwes : (Card → ℕ → List ℕ → Reply) → Type 0
+LecomOwes entry = Owes entry LecomAsks (λ card f channel. LecomFault f) (λ card f channel. LecomApart f)
+
+abbrev pub LoveOwes : (Card → ℕ → List ℕ → Reply) → Type 0
+LoveOwes entry = Owes entry LoveAsks (λ card f channel. LoveFault card) (λ card f channel. OtherBytes)
+
+abbrev pub LucidOwes : (Card → ℕ → List ℕ → Reply) → Type 0
+LucidOwes entry = Owes entry LucidAsks (λ card f channel. LucidFault) LucidApart
+
+abbrev pub DatalinkOwes : (Card → ℕ → List ℕ → Reply) → Type 0
+DatalinkOwes entry = Owes entry DatalinkAsks (λ card f channel. DatalinkFault f channel) (λ card f channel. OtherBytes)
+
+-- the claim, of every entry
+pub record NoTemperature (b : Entries) : Type 0 where
+  pub governor : GovernorOwes (b .governor)
+  pub lecom : LecomOwes (b .lecom)
+  pub love : LoveOwes (b .love)
+  pub lucid : LucidOwes (b .lucid)
+  pub datalink : DatalinkOwes (b .datalink)
+  pub setCode : (channel code : ℕ) → Unasked (λ card. b .setCode card channel code)
+  pub restart : Unasked (b .restart)
+  pub writeImage : (room : ℕ) → Unasked (λ card. b .writeImage card room)
+  pub readImage : (img : List ℕ) → Unasked (λ card. b .readImage card img)

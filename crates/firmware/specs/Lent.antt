@@ -1,7 +1,13 @@
 -- What an entry leaves in a number that firmware lends.
 use Prim.Native.Nat.{ℕ}
 use mathlib.Core.Path.{_≡_}
-use lib.Ieee.{Float}
+use mathlib.Core.List.{List, [], _∷_}
+use lib.Dec.{eqb}
+use lib.Ieee.{Float, binary32, toBits}
+use Rattle.wire.specs.Choose.{choose}
+use Rattle.card.specs.Numbers.{answered}
+use Rattle.card.specs.Layout.{Card}
+use Rattle.card.specs.Governor.{governorOf, governorReply}
 use Rattle.card.specs.declared.governor.Governor.{Governor}
 use Rattle.card.specs.declared.governor.Governor.the-variants.{Degrees, Fault, Refused}
 
@@ -15,3 +21,14 @@ abbrev pub degreesIn : Governor → Float → Float
 degreesIn (Degrees d) before = d
 degreesIn Fault before = before
 degreesIn (Refused number) before = before
+
+-- the values that C is told: with number 0 the bits of the float, else none
+unfoldable pub valuesIn : ℕ → Float → List ℕ
+valuesIn number degrees = choose (eqb number answered) (toBits binary32 degrees ∷ []) []
+
+-- the governor's reading was handed over: number, values and card are the reply's, and the float holds the degrees or what it held before
+pub record HandedReading (card : Card) (channel : ℕ) (before : Float) (number : ℕ) (card′ : Card) (after : Float) : Type 0 where
+  pub numbered : number ≡ governorReply card channel .number
+  pub valued : valuesIn number after ≡ governorReply card channel .bytes
+  pub stored : after ≡ degreesIn (governorOf card channel) before
+  pub left : card′ ≡ governorReply card channel .card

@@ -10,7 +10,7 @@ ghost use lib.ListN.{length};
 ghost use Rattle.card.specs.Layout.{cardOf};
 ghost use Rattle.card.specs.Reply.{Gave, Did};
 ghost use Rattle.card.specs.Entries.{setCode, restart};
-ghost use Rattle.card.specs.Governor.{governorOf, numberOf};
+ghost use Rattle.card.specs.Governor.{numberOf};
 ghost use Rattle.datalink.specs.Answer.{datalinkReply};
 ghost use Rattle.lecom.specs.Answer.{lecomReply};
 ghost use Rattle.love.specs.Answer.{loveReply};
@@ -18,7 +18,7 @@ ghost use Rattle.lucid.specs.Answer.{lucidReply};
 ghost use Rattle.image.specs.Entries.{writeImage, readImage};
 ghost use Rattle.master.specs.Request.{requestOf};
 ghost use Rattle.master.specs.Step.{Stepped};
-ghost use Rattle.firmware.specs.Lent.{Handed, degreesIn};
+ghost use Rattle.firmware.specs.Lent.{Handed, degreesIn, HandedReading};
 ghost use Rattle.firmware.specs.Phases.{codeOf, phaseOf, kindOf, stepInC};
 
 #[no_mangle]
@@ -69,7 +69,10 @@ pub extern "C" fn nk_governor(
     channel: u32,
     degrees: &mut f32,
 ) -> u8
-    ensures { λ r. ⌜ (r ≡ numberOf (governorOf (cardOf (now (words .entry)) (now (memory .entry)) (now (pending .entry))) channel)) × (now (degrees .exit) ≡ degreesIn (governorOf (cardOf (now (words .entry)) (now (memory .entry)) (now (pending .entry))) channel) (now (degrees .entry))) ⌝ }
+    ensures { λ r.
+        let before = cardOf (now (words .entry)) (now (memory .entry)) (now (pending .entry)) in
+        let after = cardOf (now (words .entry)) (now (memory .entry)) (now (pending .entry)) in
+        ⌜ HandedReading before channel (now (degrees .entry)) r after (now (degrees .exit)) ⌝ }
 {
     tell(
         card::governor::governor_reading(words, memory, pending, channel),

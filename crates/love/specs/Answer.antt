@@ -77,10 +77,6 @@ unfoldable pub probeData : Reading → List ℕ
 probeData (Temperature tenths) = statusData fineChar (choose (isNegative (tenths .0)) negativeChar zeroChar) (magnitude (tenths .0))
 probeData Fault = statusData faultChar zeroChar 0
 
--- the reply to 00 at a fault: no temperature is in it
-unfoldable pub faultReply : ℕ → List ℕ
-faultReply address = normalReply address (probeData Fault)
-
 -- the unit's address
 abbrev pub addressOf : List ℕ → ℕ
 addressOf words = getD words loveAddressAt 0

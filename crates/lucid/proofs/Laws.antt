@@ -1,5 +1,5 @@
 -- What holds of every LucidControl reply: a refusal changes no table; a failed probe is answered by the fault reply, a group's too; the
--- reply depends on the probes asked for alone, and without one on no memory at all. Assumes nothing.
+-- reply depends on the probes asked for alone. Assumes nothing.
 use mathlib.Core.Path.{_≡_, refl, ap}
 use mathlib.Core.Bool.{Bool, true, false, not}
 use mathlib.Core.List.{List, [], _∷_}
@@ -131,10 +131,6 @@ pub asked-alone : (ws memory memory′ f : List ℕ) → ((channel : ℕ) → ch
     → obeyed ws memory f (asked f) ≡ obeyed ws memory′ f (asked f)
 unfolding asksProbe
 asked-alone ws memory memory′ f same = order-same ws memory memory′ f (asked f) same
-
--- a frame that asks for no probe: the reply is the same for any two memories
-pub independent : (ws memory memory′ f : List ℕ) → ((channel : ℕ) → channel < channels → asksProbe f channel ≡ false) → obeyed ws memory f (asked f) ≡ obeyed ws memory′ f (asked f)
-independent ws memory memory′ f none = asked-alone ws memory memory′ f (λ channel h a. let z : _≡_ {A = ℕ} 0 1 = cc (none channel h) in let y : ⊥ = omega arith in absurd y)
 
 -- the mask of GetIo and SetIo names channel P1 alone
 pub one-channel : (channel : ℕ) → channel < channels → channelsOf (2 ^ channel) ≡ channel ∷ []

@@ -3,3 +3,5 @@ pub mod Frames
 pub mod Writes
 pub mod Laws
 pub mod Fits
+pub mod Probes
+pub mod Computed

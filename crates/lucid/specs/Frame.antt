@@ -10,43 +10,7 @@ use Rattle.wire.specs.Choose.{choose}
 use Rattle.card.specs.Numbers.{frameForm, commandUnknown, rangeUnknown, valueOutside, readOnly}
 use Rattle.card.specs.Layout.{channels, parametersAt, parametersEach}
 use Rattle.card.specs.Fitness.{inRange}
-use Rattle.lucid.specs.Form.{
-  lengthRight,
-  opcAt,
-  p1At,
-  p2At,
-  lenAt,
-  dataAt,
-  getIo,
-  getIoGroup,
-  setIo,
-  setIoGroup,
-  setParam,
-  getParam,
-  maskMost,
-  channelsOf,
-  demand,
-  tenths,
-  hundredths,
-  sizeOf,
-  default,
-  persistent,
-  otherBits,
-  cycleAddress,
-  floorAddress,
-  addressSize,
-  valueAt,
-  parameterSize,
-  noSupport,
-  invLength,
-  invP1,
-  invP2,
-  invValue,
-  invChannel,
-  invParam,
-  invData,
-  numberAt,
-}
+use Rattle.lucid.specs.Form.{lengthRight, opcAt, p1At, p2At, lenAt, dataAt, getIo, getIoGroup, setIo, setIoGroup, setParam, getParam, maskMost, channelsOf, demand, tenths, hundredths, sizeOf, default, persistent, otherBits, cycleAddress, floorAddress, addressSize, valueAt, parameterSize, noSupport, invLength, invP1, invP2, invValue, invChannel, invParam, invData, numberAt}
 use Rattle.lucid.specs.declared.frame.Order.{Order}
 use Rattle.lucid.specs.declared.frame.Order.the-variants.{Silent, Refused, GetIo, SetIo, GetParam, SetParam, Reset}
 

@@ -10,26 +10,7 @@ use Rattle.wire.specs.Choose.{choose}
 use Rattle.card.specs.Numbers.{frameForm, rangeUnknown, valueOutside, readOnly}
 use Rattle.card.specs.Layout.{channels, parameterCount}
 use Rattle.lucid.specs.Form.{dataAt, valueAt, parameterSize, getParam, channelsOf, demandSize, invLength, invP2, invValue, invParam, invData}
-use Rattle.lucid.specs.Frame.{
-  unless,
-  lenIn,
-  isGet,
-  isSet,
-  isReset,
-  saves,
-  opcKnown,
-  channelRight,
-  typeKnown,
-  typeWritable,
-  optionRight,
-  maskOf,
-  lenFor,
-  addressIn,
-  valueIn,
-  addressKnown,
-  placeOf,
-  valueRight,
-}
+use Rattle.lucid.specs.Frame.{unless, lenIn, isGet, isSet, isReset, saves, opcKnown, channelRight, typeKnown, typeWritable, optionRight, maskOf, lenFor, addressIn, valueIn, addressKnown, placeOf, valueRight}
 use Rattle.lucid.specs.declared.frame.Order.{Order}
 use Rattle.lucid.specs.declared.frame.Order.the-variants.{Silent, Refused, GetIo, SetIo, GetParam, SetParam, Reset}
 

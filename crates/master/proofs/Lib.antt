@@ -3,3 +3,4 @@ pub mod Frames
 pub mod Steps
 pub mod Forced
 pub mod Examples
+pub mod Computed

@@ -4,3 +4,4 @@ pub mod Sums
 pub mod Buffers
 pub mod Moves
 pub mod Lengths
+pub mod Computed

@@ -1,6 +1,6 @@
 //! The firmware library as C sees it (include/nakshvilor.h), and the tables that are lent to it.
 
-use reference::card::{Card, PENDING_NONE};
+use reference::card::{by_channel, Card, PENDING_NONE};
 
 /// Elements of the words and of the pending change.
 const WORDS: usize = 315;
@@ -21,8 +21,8 @@ impl Tables {
         let mut words = vec![card.addresses.datalink, card.addresses.lecom, card.addresses.love];
         words.extend(card.love.map(|value| value as u32));
         words.extend(card.demand);
-        words.extend(card.parameter.as_flattened());
-        words.extend(card.kept.as_flattened());
+        words.extend(by_channel(&card.parameter));
+        words.extend(by_channel(&card.kept));
         for copy in [&card.buffer, &card.operational, &card.saved] {
             words.extend(copy.map(|value| value as u32));
         }

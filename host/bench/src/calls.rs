@@ -81,20 +81,40 @@ pub struct Request {
     pub ask: Ask,
 }
 
-/// The rest of the master's request, for the unit at I.A. 3, and the answer to its last frame.
-#[derive(Default)]
+/// The rest of the master's request, and the answer to its last frame; and both as the second program takes them, which
+/// a caller makes once for an exchange.
 pub struct Ask {
     /// Whether the exchange begins with this step.
     pub begins: bool,
     /// [`archive::BYTES`] or [`archive::BITS`].
     pub kind: u8,
+    pub ia: u32,
     pub address: u32,
-    pub states: Vec<u8>,
-    pub answer: Vec<u8>,
+    pub states: &'static [u8],
+    pub answer: &'static [u8],
+    pub second: MasterRequest<'static>,
+    pub second_answer: Option<&'static [u8]>,
 }
 
-/// The I.A. that the master speaks to.
-pub const IA: u32 = 3;
+impl Ask {
+    /// A step with these bytes, or masks and states.
+    pub fn new(kind: u8, ia: u32, address: u32, sent: &'static [u8], states: &'static [u8]) -> Self {
+        let order = match kind {
+            archive::BYTES => Order::Bytes(sent),
+            _ => Order::Bits { masks: sent, states },
+        };
+        Self {
+            begins: false,
+            kind,
+            ia,
+            address,
+            states,
+            answer: &[],
+            second: MasterRequest { ia, address, order },
+            second_answer: None,
+        }
+    }
+}
 
 /// A card on both sides, the buffers, and what the last call gave.
 pub struct Bed {
@@ -219,7 +239,7 @@ fn archive_step(bed: &mut Bed, request: &Request) {
         archive::nk_step(
             &mut bed.phase,
             ask.kind,
-            IA,
+            ask.ia,
             ask.address,
             sent.as_ptr(),
             sent.len(),
@@ -234,15 +254,48 @@ fn archive_step(bed: &mut Bed, request: &Request) {
     };
 }
 
+/// The second program's entries as functions that are called, as the library's are.
+macro_rules! called {
+    ($($name:ident($($argument:ident: $type:ty),*) -> $given:ty = $entry:path;)*) => {
+        $(#[inline(never)]
+        fn $name($($argument: $type),*) -> $given {
+            $entry($($argument),*)
+        })*
+    };
+}
+
+called! {
+    second_set_code(card: &mut Card, channel: u8, code: u8) -> Number = set_probe;
+    second_restart(card: &mut Card) -> Number = restart;
+    second_governor(card: &Card, channel: u8) -> Governor = governor;
+    second_datalink(card: &mut Card, frame: &[u8], answer: &mut [u8]) -> Reply = reference::datalink::datalink;
+    second_lecom(card: &mut Card, frame: &[u8], answer: &mut [u8]) -> Reply = reference::lecom::lecom;
+    second_love(card: &mut Card, frame: &[u8], answer: &mut [u8]) -> Reply = reference::love::love;
+    second_lucid(card: &mut Card, frame: &[u8], answer: &mut [u8]) -> Reply = reference::lucid::lucid;
+    second_write_image(card: &Card, image: &mut [u8]) -> Reply = reference::image::save;
+    second_read_image(card: &mut Card, image: &[u8]) -> Number = reference::image::load;
+    second_master(master: &mut Master, request: &MasterRequest, answer: Option<&[u8]>, frame: &mut [u8]) -> Reply = step;
+}
+
+/// The thunk of a dialect's entry in the second program.
+macro_rules! second_dialect {
+    ($name:ident) => {
+        |bed: &mut Bed, request: &Request| {
+            let reply = $name(&mut bed.card, &request.bytes, &mut bed.answer);
+            keep(bed, reply);
+        }
+    };
+}
+
 fn second_thunk(entry: Entry) -> Thunk {
     match entry {
         Entry::SetCode => |bed, request| {
-            bed.number = set_probe(&mut bed.card, request.channel as u8, request.code) as u8;
+            bed.number = second_set_code(&mut bed.card, request.channel as u8, request.code) as u8;
         },
         Entry::Restart => |bed, _| {
-            bed.number = restart(&mut bed.card) as u8;
+            bed.number = second_restart(&mut bed.card) as u8;
         },
-        Entry::Governor => |bed, request| match governor(&bed.card, request.channel as u8) {
+        Entry::Governor => |bed, request| match second_governor(&bed.card, request.channel as u8) {
             Governor::Degrees(degrees) => {
                 bed.degrees = degrees;
                 bed.number = Number::Answered as u8;
@@ -250,28 +303,16 @@ fn second_thunk(entry: Entry) -> Thunk {
             Governor::Fault => bed.number = Number::Fault as u8,
             Governor::Refused(number) => bed.number = number as u8,
         },
-        Entry::Datalink => |bed, request| {
-            let reply = reference::datalink::datalink(&mut bed.card, &request.bytes, &mut bed.answer);
-            keep(bed, reply);
-        },
-        Entry::Lecom => |bed, request| {
-            let reply = reference::lecom::lecom(&mut bed.card, &request.bytes, &mut bed.answer);
-            keep(bed, reply);
-        },
-        Entry::Love => |bed, request| {
-            let reply = reference::love::love(&mut bed.card, &request.bytes, &mut bed.answer);
-            keep(bed, reply);
-        },
-        Entry::Lucid => |bed, request| {
-            let reply = reference::lucid::lucid(&mut bed.card, &request.bytes, &mut bed.answer);
-            keep(bed, reply);
-        },
+        Entry::Datalink => second_dialect!(second_datalink),
+        Entry::Lecom => second_dialect!(second_lecom),
+        Entry::Love => second_dialect!(second_love),
+        Entry::Lucid => second_dialect!(second_lucid),
         Entry::WriteImage => |bed, _| {
-            let reply = reference::image::save(&bed.card, &mut bed.answer);
+            let reply = second_write_image(&bed.card, &mut bed.answer);
             keep(bed, reply);
         },
         Entry::ReadImage => |bed, request| {
-            bed.number = reference::image::load(&mut bed.card, &request.bytes) as u8;
+            bed.number = second_read_image(&mut bed.card, &request.bytes) as u8;
         },
         Entry::Step => second_step,
     }
@@ -282,22 +323,8 @@ fn second_step(bed: &mut Bed, request: &Request) {
     if ask.begins {
         bed.master = Master::new();
     }
-    let order = match ask.kind {
-        archive::BYTES => Order::Bytes(&request.bytes),
-        _ => Order::Bits {
-            masks: &request.bytes,
-            states: &ask.states,
-        },
-    };
-    let asked = MasterRequest {
-        ia: IA,
-        address: ask.address,
-        order,
-    };
-    let answer = (!ask.answer.is_empty()).then_some(&ask.answer[..]);
-    let given = step(&mut bed.master, &asked, answer, &mut bed.answer);
-    bed.number = given.number as u8;
-    bed.len = given.length;
+    let reply = second_master(&mut bed.master, &ask.second, ask.second_answer, &mut bed.answer);
+    keep(bed, reply);
 }
 
 #[inline]

@@ -14,7 +14,12 @@ use crate::frames::{
 pub struct Case {
     pub name: String,
     pub request: Request,
+    /// The sweep over lengths that it belongs to, and its length.
+    pub point: Option<(String, usize)>,
 }
+
+/// The name of the Datalink call with the longest answer.
+pub const LONGEST_INTERROGATE: &str = "interrogate 32";
 
 /// The card that a group's calls start from.
 #[derive(Clone, Copy, PartialEq, Eq)]
@@ -130,8 +135,8 @@ fn busy_card() -> Card {
     card.memory[..4].copy_from_slice(&[90, 78, 0, 254]);
     card.love = [-15, 870, -400, 5];
     card.demand = [0, 1, 1_000, 65_535];
-    card.parameter = [[750_000, 0], [1_000, 1], [60_000_000, 65_535], [1_000_000, 100]];
-    card.kept = [[1_000_000, 0], [2_000, 2], [59_999_999, 1_000], [1_000, 65_535]];
+    card.parameter = [[750_000, 1_000, 60_000_000, 1_000_000], [0, 1, 65_535, 100]];
+    card.kept = [[1_000_000, 2_000, 59_999_999, 1_000], [0, 2, 1_000, 65_535]];
     card
 }
 
@@ -143,8 +148,9 @@ fn case(name: impl Into<String>, entry: Entry, bytes: Vec<u8>) -> Case {
             channel: 0,
             code: 0,
             bytes,
-            ask: Ask::default(),
+            ask: Ask::new(BYTES, 0, 0, &[], &[]),
         },
+        point: None,
     }
 }
 
@@ -172,7 +178,7 @@ fn dialects() -> Vec<Group> {
             vec![
                 ("interrogate 9 (P1)", interrogate(0x1000, 9)),
                 ("interrogate 4", interrogate(0x1000, 4)),
-                ("interrogate 32", interrogate(0x1400, 32)),
+                (LONGEST_INTERROGATE, interrogate(0x1400, 32)),
                 ("change 2", change(CHANGE, 0x1010, 2)),
                 ("acknowledge", ACKNOWLEDGE.to_vec()),
                 ("change 32", change(CHANGE, 0x1100, 32)),
@@ -294,24 +300,30 @@ fn others() -> Group {
 
 /// A sweep over data lengths: each case is named by its length.
 fn lengths(name: &'static str, entry: Entry, counts: &[usize], frame: impl Fn(usize) -> Vec<u8>) -> Group {
-    let cases = counts
-        .iter()
-        .map(|&count| case(count.to_string(), entry, frame(count)))
-        .collect();
-    Group::new(name, cases)
+    let cases = counts.iter().map(|&count| Case {
+        point: Some((name.to_owned(), count)),
+        ..case(count.to_string(), entry, frame(count))
+    });
+    Group::new(name, cases.collect())
 }
 
-/// Datalink changes of each length; with `acknowledged` the acknowledge after each.
-fn changes(name: &'static str, command: u8, nums: &[usize], acknowledged: bool) -> Group {
-    let mut group = lengths(name, Entry::Datalink, nums, |num| change(command, 0x1101, num as u8));
-    if acknowledged {
-        let after = |change: Case| {
-            let acknowledge = case(change.name.clone(), Entry::Datalink, ACKNOWLEDGE.to_vec());
-            [change, acknowledge]
+/// Datalink acknowledges of changes of each length, each after its change.
+fn acknowledges(name: &'static str, command: u8, nums: &[usize]) -> Group {
+    let both = |&num: &usize| {
+        let acknowledge = Case {
+            point: Some((name.to_owned(), num)),
+            ..case(num.to_string(), Entry::Datalink, ACKNOWLEDGE.to_vec())
         };
-        group.cases = group.cases.into_iter().flat_map(after).collect();
-    }
-    group
+        [
+            case(
+                format!("change {num}"),
+                Entry::Datalink,
+                change(command, 0x1101, num as u8),
+            ),
+            acknowledge,
+        ]
+    };
+    Group::new(name, nums.iter().flat_map(both).collect())
 }
 
 fn sweeps() -> Vec<Group> {
@@ -332,10 +344,14 @@ fn sweeps() -> Vec<Group> {
         lengths("Datalink interrogate", Entry::Datalink, &nums, |num| {
             interrogate(0x1FE0, num as u8)
         }),
-        changes("Datalink change", CHANGE, &nums, false),
-        changes("Datalink change bits", CHANGE_BITS, &even, false),
-        changes("Datalink change and acknowledge", CHANGE, &nums, true),
-        changes("Datalink change bits and acknowledge", CHANGE_BITS, &even, true),
+        lengths("Datalink change", Entry::Datalink, &nums, |num| {
+            change(CHANGE, 0x1101, num as u8)
+        }),
+        lengths("Datalink change bits", Entry::Datalink, &even, |num| {
+            change(CHANGE_BITS, 0x1101, num as u8)
+        }),
+        acknowledges("Datalink acknowledge of a change", CHANGE, &nums),
+        acknowledges("Datalink acknowledge of change bits", CHANGE_BITS, &even),
         lengths("LECOM write", Entry::Lecom, &data, |count| {
             lecom_write("11", "5F", &minus(count))
         }),
@@ -471,6 +487,7 @@ fn exchanges(name: &'static str, bytes: &[u8], bits: &[u8]) -> Group {
 }
 
 /// Where the master's changes go.
+const IA: u32 = 3;
 const ADDRESS: u16 = 0x1101;
 
 /// The four steps of an exchange that gets this echo and this read-back.
@@ -480,12 +497,15 @@ fn exchange(kind: u8, sent: &[u8], states: &[u8], [echo, read]: [Vec<u8>; 2]) ->
     let step = |(name, answer): (&str, Vec<u8>)| {
         let what = if kind == BYTES { "bytes" } else { "bytes of bits" };
         let mut case = case(format!("{name}, {} {what}", sent.len()), Entry::Step, sent.to_vec());
+        case.point = Some((format!("master: {name}, {what}"), sent.len()));
+        // Lent to the second program for the rest of the run.
+        let (sent, states, answer) = (sent.to_vec().leak(), states.to_vec().leak(), answer.leak());
+        let second_answer = Some(&*answer).filter(|answer| !answer.is_empty());
         case.request.ask = Ask {
             begins: name == names[0],
-            kind,
-            address: ADDRESS.into(),
-            states: states.to_vec(),
             answer,
+            second_answer,
+            ..Ask::new(kind, IA, ADDRESS.into(), sent, states)
         };
         case
     };

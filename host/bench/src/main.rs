@@ -51,7 +51,7 @@ fn report(plan: &Plan, dumps: &Path, disassembly: &Path) {
     let costs = callgrind::read_costs(plan, dumps).expect("callgrind's dumps can be read");
     let counted = report::Counted::all(plan, &costs);
     let text = std::fs::read_to_string(disassembly).expect("the disassembly can be read");
-    report::dialects(plan, &counted);
+    report::calls_by_group(plan, &counted);
     report::fitness(plan, &counted);
     report::worst(&counted, &stack::Frames::read(&text), &stack::most_touched(plan));
     report::growth(plan, &counted);

@@ -5,13 +5,22 @@ use std::collections::HashMap;
 
 use crate::callgrind::Cost;
 use crate::calls::Entry;
-use crate::groups::{Case, Group, Plan};
+use crate::groups::{Case, Group, Plan, LONGEST_INTERROGATE};
 use crate::stack::Frames;
 use crate::time::ratio;
 
-/// What the customer asks: instructions of a dialect's calls against the second program's, and of fitness alone.
-const RATIO_AIM: f64 = 0.9;
-const FITNESS_AIM: u64 = 650;
+/// What is aimed at: no more instructions than the second program's, and as many for fitness alone.
+const RATIO_AIM: f64 = 1.0;
+const FITNESS_AIM: u64 = 430;
+
+/// How a figure stands to its aim.
+fn verdict(is_met: bool) -> &'static str {
+    if is_met {
+        "met"
+    } else {
+        "missed"
+    }
+}
 
 /// A group with what its calls cost.
 pub struct Counted<'a> {
@@ -49,31 +58,33 @@ fn named<'a>(counted: &'a [Counted], group: &Group) -> &'a Counted<'a> {
 }
 
 /// Instructions of a call, group by group.
-pub fn dialects(plan: &Plan, counted: &[Counted]) {
+pub fn calls_by_group(plan: &Plan, counted: &[Counted]) {
     println!("## Instructions of a call\n");
-    println!("| Calls | Number of them | Library | Second program | Ratio | Aim: {RATIO_AIM} |");
+    println!("| Calls | Number of them | Library | Second program | Ratio | Aim: {RATIO_AIM:.1} |");
     println!("|---|---|---|---|---|---|");
     for group in &plan.dialects {
-        let total = named(counted, group).total();
-        let met = if quotient(total) <= RATIO_AIM { "met" } else { "missed" };
-        print_mean(group.name, group.cases.len(), total, met);
-    }
-    for group in [&plan.mix, &plan.master] {
-        print_mean(group.name, group.cases.len(), named(counted, group).total(), "");
+        print_mean(group.name, group.cases.len(), named(counted, group).total(), true);
     }
     for (case, cost) in named(counted, &plan.others).cases() {
-        print_mean(&case.name, 1, cost, "");
+        print_mean(&case.name, 1, cost, true);
     }
+    let master = named(counted, &plan.master);
+    print_mean(master.group.name, master.costs.len(), master.total(), true);
+    let mix = named(counted, &plan.mix);
+    print_mean(mix.group.name, mix.costs.len(), mix.total(), false);
+    let mut interrogates = named(counted, &plan.dialects[0]).cases();
+    let longest = interrogates.find(|(case, _)| case.name == LONGEST_INTERROGATE);
+    let (_, cost) = longest.expect("it is among Datalink's calls");
+    print_mean("Datalink interrogate of 32 bytes", 1, cost, false);
 }
 
 /// A row with the mean of some calls.
-fn print_mean(name: &str, count: usize, total: Cost, met: &str) {
+fn print_mean(name: &str, count: usize, total: Cost, has_aim: bool) {
     let mean = |instructions: u64| instructions as f64 / count as f64;
     let (archive, second) = (mean(total.archive), mean(total.second));
-    println!(
-        "| {name} | {count} | {archive:.0} | {second:.0} | {:.3} | {met} |",
-        quotient(total)
-    );
+    let ratio = quotient(total);
+    let verdict = if has_aim { verdict(ratio <= RATIO_AIM) } else { "" };
+    println!("| {name} | {count} | {archive:.0} | {second:.0} | {ratio:.3} | {verdict} |");
 }
 
 /// Fitness alone.
@@ -90,69 +101,81 @@ pub fn fitness(plan: &Plan, counted: &[Counted]) {
         ("a change pending", &plan.fitness_pending),
     ] {
         let whole = cost(group);
-        let met = if whole.archive < FITNESS_AIM { "met" } else { "missed" };
         println!(
-            "| {name} | {} | {} | {:.3} | {} | {met} |",
+            "| {name} | {} | {} | {:.3} | {} | {} |",
             whole.archive,
             whole.second,
             quotient(whole),
-            whole.archive - unfit
+            whole.archive - unfit,
+            verdict(whole.archive <= FITNESS_AIM)
         );
     }
     println!("| refused before fitness, by a table's length | {unfit} | | | | |");
 }
 
-/// The dearest call of each entry and its stack.
+/// The dearest call of each entry on either side, and the library's stack.
 pub fn worst(counted: &[Counted], frames: &Frames, touched: &HashMap<Entry, usize>) {
     println!("\n## Worst cases\n");
-    println!("| Entry | Instructions | Dearest call | Stack bytes | of them touched |");
-    println!("|---|---|---|---|---|");
+    println!(
+        "| Entry | Library | its dearest call | Second program | its dearest call | Ratio | Stack bytes | of them touched |"
+    );
+    println!("|---|---|---|---|---|---|---|---|");
     for entry in Entry::ALL {
-        let calls = counted
-            .iter()
-            .flat_map(|counted| counted.cases().map(|(case, cost)| (counted.group, case, cost)));
-        let own = calls.filter(|(_, case, _)| case.request.entry == entry);
-        let (group, case, cost) = own
-            .min_by_key(|(_, _, cost)| Reverse(cost.archive))
-            .expect("every entry is called");
+        let dearest = |part: fn(&Cost) -> u64| {
+            let calls = counted
+                .iter()
+                .flat_map(|counted| counted.cases().map(|(case, cost)| (counted.group, case, part(&cost))));
+            let own = calls.filter(|(_, case, _)| case.request.entry == entry);
+            let (group, case, cost) = own
+                .min_by_key(|(_, _, cost)| Reverse(*cost))
+                .expect("every entry is called");
+            (format!("{}: {}", group.name, case.name), cost)
+        };
+        let (archive_call, archive) = dearest(|cost| cost.archive);
+        let (second_call, second) = dearest(|cost| cost.second);
         println!(
-            "| `{}` | {} | {}: {} | {} | {} |",
+            "| `{}` | {archive} | {archive_call} | {second} | {second_call} | {:.3} | {} | {} |",
             entry.symbol(),
-            cost.archive,
-            group.name,
-            case.name,
+            quotient(Cost { archive, second }),
             frames.most(entry.symbol()),
             touched[&entry]
         );
     }
 }
 
-/// How cost grows with a frame, for the sweeps whose cases are named by a length.
+/// How cost grows with a frame, sweep by sweep.
 pub fn growth(plan: &Plan, counted: &[Counted]) {
     println!("\n## Growth with the frame\n");
-    println!("| Sweep | Bytes | Library | Second program | Library, each byte | Second program, each byte |");
-    println!("|---|---|---|---|---|---|");
+    println!(
+        "| Sweep | Bytes | Library | Second program | Library, each byte | Second program, each byte | Aim: no more |"
+    );
+    println!("|---|---|---|---|---|---|---|");
+    let mut sweeps: Vec<(&str, Vec<(f64, Cost)>)> = Vec::new();
     for group in &plan.sweeps {
-        let points: Vec<(f64, Cost)> = named(counted, group)
-            .cases()
-            .filter_map(|(case, cost)| case.name.parse().ok().map(|length: f64| (length, cost)))
-            .collect();
-        let lengths: Vec<f64> = points.iter().map(|point| point.0).collect();
-        if lengths.len() != group.cases.len() || !lengths.is_sorted_by(|one, next| one < next) {
-            continue;
+        for (case, cost) in named(counted, group).cases() {
+            let Some((name, length)) = &case.point else {
+                continue;
+            };
+            let point = (*length as f64, cost);
+            match sweeps.iter_mut().find(|(known, _)| known == name) {
+                Some((_, points)) => points.push(point),
+                None => sweeps.push((name, vec![point])),
+            }
         }
+    }
+    for (name, points) in sweeps {
         let (first, last) = (points[0], points[points.len() - 1]);
+        let (archive, second) = (slope(&points, |cost| cost.archive), slope(&points, |cost| cost.second));
         println!(
-            "| {} | {} to {} | {} to {} | {} to {} | {:.1} | {:.1} |",
-            group.name,
+            "| {name} | {} to {} | {} to {} | {} to {} | {archive:.1} | {second:.1} | {} |",
             first.0,
             last.0,
             first.1.archive,
             last.1.archive,
             first.1.second,
             last.1.second,
-            slope(&points, |cost| cost.archive),
-            slope(&points, |cost| cost.second)
+            // A second program that gets cheaper by the byte asks no more than one that stays as it is.
+            verdict(archive <= second.max(0.0))
         );
     }
 }
@@ -174,7 +197,7 @@ pub fn times(plan: &Plan) {
     println!("\n## Time, library to second program\n");
     println!("| Calls | Median | Middle half of the turns |");
     println!("|---|---|---|");
-    for group in plan.dialects.iter().chain([&plan.mix, &plan.fitness]) {
+    for group in plan.dialects.iter().chain([&plan.mix, &plan.fitness, &plan.master]) {
         let ratio = ratio(group);
         println!(
             "| {} | {:.2} | {:.2} to {:.2} |",

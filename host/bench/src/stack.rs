@@ -4,7 +4,7 @@ use std::arch::asm;
 use std::collections::HashMap;
 
 use crate::archive::NEW;
-use crate::calls::{Bed, Entry, Request, IA};
+use crate::calls::{Bed, Entry, Request};
 use crate::groups::Plan;
 
 /// A return address, a pushed register.
@@ -85,10 +85,10 @@ fn arguments(bed: &mut Bed, request: &Request) -> Vec<u64> {
             let asked = vec![
                 &raw mut bed.phase as u64,
                 ask.kind.into(),
-                IA.into(),
+                ask.ia.into(),
                 ask.address.into(),
             ];
-            let rest = [lent(&ask.states), lent(&ask.answer)].concat();
+            let rest = [lent(ask.states), lent(ask.answer)].concat();
             [asked, bytes, rest, answer].concat()
         }
     }

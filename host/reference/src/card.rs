@@ -24,15 +24,19 @@ pub const FAULT_CODE: u8 = 255;
 /// The demand after a restart.
 pub const RESTART_DEMAND: u32 = 65_535;
 /// Smallest and largest demand.
-pub const DEMAND_RANGE: Range = (0, 65_535);
+pub const DEMAND_RANGE: Range = SIXTEEN_BITS;
 /// Smallest and largest LECOM register.
-pub const REGISTER_RANGE: Range = (-999_999, 999_999);
+pub const REGISTER_RANGE: Range = Range::new(-999_999, 999_999);
 /// Smallest and largest Love parameter, in tenths.
-pub const LOVE_RANGE: Range = (-400, 870);
+pub const LOVE_RANGE: Range = Range::new(-400, 870);
 /// Smallest and largest value of the parameters 1110h and 1120h.
-pub const PARAMETER_RANGES: [Range; CHANNEL_PARAMETERS] = [(1_000, 60_000_000), (0, 65_535)];
+pub const PARAMETER_RANGES: [Range; CHANNEL_PARAMETERS] = [Range::new(1_000, 60_000_000), SIXTEEN_BITS];
+/// Every value of sixteen bits, and no other.
+const SIXTEEN_BITS: Range = Range::new(0, 65_535);
 /// Defaults of the parameters 1110h and 1120h.
 pub const PARAMETER_DEFAULTS: [u32; CHANNEL_PARAMETERS] = [1_000_000, 0];
+/// All parameters at their defaults.
+const DEFAULT_PARAMETERS: Parameters = [[PARAMETER_DEFAULTS[0]; CHANNELS], [PARAMETER_DEFAULTS[1]; CHANNELS]];
 
 /// Pending kind: none; the other fields are then not looked at.
 pub const PENDING_NONE: u8 = 0;
@@ -41,11 +45,65 @@ pub const PENDING_CHANGE: u8 = 1;
 /// Pending kind: a Change Bits.
 pub const PENDING_BITS: u8 = 2;
 
-/// The least and the most value of an entry, both taken in; neither is beyond a thousand million either way.
-pub type Range = (i32, i32);
+/// The least and the most value of an entry, both taken in.
+#[derive(Clone, Copy)]
+pub struct Range {
+    /// The least value.
+    pub least: i32,
+    /// The most value.
+    pub most: i32,
+    /// Moves the least value to the least `i32`, and with it the most to `limit`.
+    shift: i32,
+    limit: i32,
+}
 
-/// LucidControl parameters, channel by channel, 1110h first.
-pub type Parameters = [[u32; CHANNEL_PARAMETERS]; CHANNELS];
+impl Range {
+    const fn new(least: i32, most: i32) -> Self {
+        let shift = i32::MIN.wrapping_sub(least);
+        Self {
+            least,
+            most,
+            shift,
+            limit: most.wrapping_add(shift),
+        }
+    }
+
+    /// Whether a value lies outside: moved by `shift`, it is then above the limit on either side. This is one comparison
+    /// of signed values, of which the processor makes four at a time.
+    #[inline]
+    pub const fn excludes(&self, value: i32) -> bool {
+        value.wrapping_add(self.shift) > self.limit
+    }
+
+    /// The same of an unsigned value: above the most `i32` it turns negative, and no unsigned range has a negative least.
+    #[inline]
+    pub const fn excludes_unsigned(&self, value: u32) -> bool {
+        self.excludes(value as i32)
+    }
+
+    /// Whether any of the values lies outside. The loop runs to its end, so that the compiler can take many at once.
+    #[inline]
+    pub fn excludes_any<const N: usize>(&self, values: &[i32; N]) -> bool {
+        values.iter().fold(false, |any, &value| any | self.excludes(value))
+    }
+
+    /// The same of unsigned values.
+    #[inline]
+    pub fn excludes_any_unsigned<const N: usize>(&self, values: &[u32; N]) -> bool {
+        values
+            .iter()
+            .fold(false, |any, &value| any | self.excludes_unsigned(value))
+    }
+}
+
+/// LucidControl parameters: 1110h of every channel, then 1120h of every channel.
+pub type Parameters = [[u32; CHANNELS]; CHANNEL_PARAMETERS];
+
+/// The parameters channel by channel, 1110h first, as the console and the image have them.
+#[inline]
+pub fn by_channel([first, second]: &Parameters) -> [u32; CHANNELS * CHANNEL_PARAMETERS] {
+    std::array::from_fn(|place| [first, second][place % CHANNEL_PARAMETERS][place / CHANNEL_PARAMETERS])
+}
 
 /// A temperature in tenths of a degree.
 #[derive(Clone, Copy, PartialEq, Eq, Debug)]
@@ -77,9 +135,9 @@ impl Addresses {
     /// Whether each address is one the card may have.
     #[inline]
     pub fn is_fit(&self) -> bool {
-        let lecom = (11..=99).contains(&self.lecom) & !self.lecom.is_multiple_of(10);
-        let love = (self.love <= 0x3FF) & (self.love & 0xFF != 0);
-        (self.datalink <= 31) & lecom & love
+        let lecom = (11..=99).contains(&self.lecom) && !self.lecom.is_multiple_of(10);
+        let love = self.love <= 0x3FF && self.love & 0xFF != 0;
+        self.datalink <= 31 && lecom && love
     }
 }
 
@@ -100,8 +158,13 @@ impl Pending {
     /// None, or a change that the Datalink order would have echoed.
     #[inline]
     pub fn is_fit(&self) -> bool {
+        self.kind == PENDING_NONE || self.would_be_echoed()
+    }
+
+    /// Whether the Datalink order would have echoed the change.
+    #[inline]
+    fn would_be_echoed(&self) -> bool {
         let named = match self.kind {
-            PENDING_NONE => return true,
             PENDING_CHANGE => self.num,
             PENDING_BITS if self.num.is_multiple_of(2) => self.num / 2,
             _ => return false,
@@ -164,8 +227,8 @@ impl Card {
             saved: [0; REGISTERS],
             love: [0; 4],
             demand: [RESTART_DEMAND; CHANNELS],
-            parameter: [PARAMETER_DEFAULTS; CHANNELS],
-            kept: [PARAMETER_DEFAULTS; CHANNELS],
+            parameter: DEFAULT_PARAMETERS,
+            kept: DEFAULT_PARAMETERS,
             pending: Pending {
                 kind: PENDING_NONE,
                 address: 0,
@@ -175,21 +238,33 @@ impl Card {
         }
     }
 
-    /// Whether addresses, entries and pending change keep document 01's rules; number 12 if not.
+    /// Whether addresses, entries and pending change keep document 01's rules; number 12 if not. Probe codes and memory
+    /// bytes have no unfit value.
     ///
-    /// All loops run to their end, so that the compiler can take many entries at once. Probe codes and memory bytes
-    /// have no unfit value.
-    #[inline]
+    /// Kept out of line: where it is inlined, the compiler turns some of its tests about and needs more instructions.
+    #[inline(never)]
     pub fn is_fit(&self) -> bool {
-        registers_fit(&self.buffer)
-            & registers_fit(&self.operational)
-            & registers_fit(&self.saved)
-            & love_fit(&self.love)
-            & demands_fit(&self.demand)
-            & parameters_fit(&self.parameter)
-            & parameters_fit(&self.kept)
-            & self.addresses.is_fit()
-            & self.pending.is_fit()
+        !self.has_register_outside() && !self.has_four_outside() && self.addresses.is_fit() && self.pending.is_fit()
+    }
+
+    /// Whether a register of any copy is outside its range.
+    #[inline]
+    fn has_register_outside(&self) -> bool {
+        REGISTER_RANGE.excludes_any(&self.buffer)
+            || REGISTER_RANGE.excludes_any(&self.operational)
+            || REGISTER_RANGE.excludes_any(&self.saved)
+    }
+
+    /// Whether a Love parameter, a demand or a LucidControl parameter is outside its range.
+    #[inline]
+    fn has_four_outside(&self) -> bool {
+        let ([first, second], [first_kept, second_kept]) = (&self.parameter, &self.kept);
+        // Values are all of sixteen bits exactly if their or is.
+        let sixteen_bits = self.demand.iter().chain(second).chain(second_kept);
+        LOVE_RANGE.excludes_any(&self.love)
+            || PARAMETER_RANGES[0].excludes_any_unsigned(first)
+            || PARAMETER_RANGES[0].excludes_any_unsigned(first_kept)
+            || SIXTEEN_BITS.excludes_unsigned(sixteen_bits.fold(0, |all, value| all | value))
     }
 
     /// The temperature of a probe, or none at fault.
@@ -206,58 +281,6 @@ impl Default for Card {
     fn default() -> Self {
         Self::new()
     }
-}
-
-/// Negative exactly if the value is outside the range: then one of the two differences is negative, or wraps to be so.
-#[inline]
-fn outside(value: i32, (least, most): Range) -> i32 {
-    value.wrapping_sub(least) | most.wrapping_sub(value)
-}
-
-/// [`outside`] for an unsigned value: above the most `i32` it turns negative, and no unsigned range has a negative least.
-#[inline]
-fn outside_unsigned(value: u32, range: Range) -> i32 {
-    outside(value as i32, range)
-}
-
-/// Whether every register lies in its range.
-///
-/// Kept out of line: three of these loops woven into each other need more vector registers than there are.
-#[inline(never)]
-pub fn registers_fit(registers: &[i32; REGISTERS]) -> bool {
-    registers
-        .iter()
-        .fold(0, |all, &value| all | outside(value, REGISTER_RANGE))
-        >= 0
-}
-
-/// Whether every Love parameter lies in its range.
-#[inline]
-pub fn love_fit(love: &[i32; 4]) -> bool {
-    love.iter().fold(0, |all, &value| all | outside(value, LOVE_RANGE)) >= 0
-}
-
-/// Whether every demand lies in its range.
-#[inline]
-fn demands_fit(demands: &[u32; CHANNELS]) -> bool {
-    demands
-        .iter()
-        .fold(0, |all, &value| all | outside_unsigned(value, DEMAND_RANGE))
-        >= 0
-}
-
-/// Whether every parameter lies in its range.
-#[inline]
-pub fn parameters_fit(parameters: &Parameters) -> bool {
-    let [first, second] = PARAMETER_RANGES;
-    parameters.iter().fold(0, |all, channel| {
-        all | outside_unsigned(channel[0], first) | outside_unsigned(channel[1], second)
-    }) >= 0
-}
-
-/// Whether a parameter's value lies in its range.
-pub fn parameter_fit(value: u32, parameter: usize) -> bool {
-    outside_unsigned(value, PARAMETER_RANGES[parameter]) >= 0
 }
 
 /// Entry: set a probe code.
@@ -279,8 +302,10 @@ pub fn restart(card: &mut Card) -> Number {
     if !card.is_fit() {
         return Number::Unfit;
     }
-    card.buffer = card.saved;
-    card.operational = card.saved;
+    for ((buffer, operational), &saved) in card.buffer.iter_mut().zip(&mut card.operational).zip(&card.saved) {
+        *buffer = saved;
+        *operational = saved;
+    }
     card.parameter = card.kept;
     card.demand = [RESTART_DEMAND; CHANNELS];
     card.memory[..CHANNELS].fill(FAULT_CODE);

@@ -1,19 +1,19 @@
 //! The console: one card and one line master, driven by lines (docs/CONSOLE.md).
 
+mod tables;
+mod words;
+
 use std::io::{self, Read, Write};
 
+use self::words::{append_bytes, end, room, split_slash, split_word, unsigned, Unreadable, ROOM_MOST};
 use crate::card::{self, Card, Governor};
-use crate::figures::{decimal, decimal_value, hex_byte, hex_figures, DECIMAL_MOST};
+use crate::figures::{decimal, hex_figures, DECIMAL_MOST};
 use crate::master::{self, Master, Order, Request, Says};
 use crate::numbers::{Number, Reply};
 use crate::{datalink, image, lecom, love, lucid};
 
 /// Longest line, without its line feed.
 const LINE_MOST: usize = 32_768;
-/// Largest ROOM.
-const ROOM_MOST: usize = 1_024;
-/// Most figures of a number.
-const FIGURES_MOST: usize = 10;
 /// Bytes taken from the input at a time.
 const CHUNK: usize = 65_536;
 /// Output held back before it is written, though input is left.
@@ -113,6 +113,12 @@ enum Error {
     Expected,
     /// A step before the first request.
     NoRequest,
+}
+
+impl From<Unreadable> for Error {
+    fn from(_: Unreadable) -> Self {
+        Self::Expected
+    }
 }
 
 /// A dialect's entry.
@@ -333,7 +339,7 @@ impl Console {
         let frame = &mut self.room[..room];
         let step = master::step(&mut self.master, &request, answer, frame);
         write_number(out, step.number);
-        out.extend_from_slice(match step.says {
+        out.extend_from_slice(match self.master.says() {
             Says::Open => b" open",
             Says::Done => b" done",
             Says::Unknown => b" unknown",
@@ -348,21 +354,7 @@ impl Console {
         let (value, words) = split_word(words);
         let place = usize::from(unsigned::<u16>(place)?);
         end(words)?;
-        let card = &mut self.card;
-        match table {
-            b"address" => *address(card, place)? = unsigned(value)?,
-            b"probe" => *entry(&mut card.memory[..card::CHANNELS], place)? = unsigned(value)?,
-            b"memory" => *entry(&mut card.memory, place)? = unsigned(value)?,
-            b"buffer" => *entry(&mut card.buffer, place)? = signed(value)?,
-            b"operational" => *entry(&mut card.operational, place)? = signed(value)?,
-            b"saved" => *entry(&mut card.saved, place)? = signed(value)?,
-            b"love" => *entry(&mut card.love, place)? = signed(value)?,
-            b"demand" => *entry(&mut card.demand, place)? = unsigned(value)?,
-            b"parameter" => *entry(card.parameter.as_flattened_mut(), place)? = unsigned(value)?,
-            b"kept" => *entry(card.kept.as_flattened_mut(), place)? = unsigned(value)?,
-            b"pending" => poke_pending(card, place, value)?,
-            _ => return Err(Error::Expected),
-        }
+        tables::poke(&mut self.card, table, place, value)?;
         out.extend_from_slice(b"ok");
         Ok(())
     }
@@ -370,24 +362,7 @@ impl Console {
     fn peek(&mut self, words: &[u8], out: &mut Vec<u8>) -> Result<(), Error> {
         let (table, words) = split_word(words);
         end(words)?;
-        let card = &self.card;
-        match table {
-            b"address" => {
-                let addresses = &card.addresses;
-                write_entries(out, &[addresses.datalink, addresses.lecom, addresses.love]);
-            }
-            b"probe" => write_entries(out, &card.memory[..card::CHANNELS]),
-            b"memory" => write_entries(out, &card.memory),
-            b"buffer" => write_entries(out, &card.buffer),
-            b"operational" => write_entries(out, &card.operational),
-            b"saved" => write_entries(out, &card.saved),
-            b"love" => write_entries(out, &card.love),
-            b"demand" => write_entries(out, &card.demand),
-            b"parameter" => write_entries(out, card.parameter.as_flattened()),
-            b"kept" => write_entries(out, card.kept.as_flattened()),
-            b"pending" => peek_pending(card, out),
-            _ => return Err(Error::Expected),
-        }
+        tables::peek(&self.card, table, out)?;
         Ok(())
     }
 
@@ -402,133 +377,14 @@ impl Console {
     /// Reads the words to the line's end as bytes.
     fn take_bytes(&mut self, words: &[u8]) -> Result<(), Error> {
         self.bytes.clear();
-        append_bytes(&mut self.bytes, words)
+        append_bytes(&mut self.bytes, words)?;
+        Ok(())
     }
 }
 
 impl Default for Console {
     fn default() -> Self {
         Self::new()
-    }
-}
-
-/// The first word, empty at the line's end, and what follows it.
-fn split_word(line: &[u8]) -> (&[u8], &[u8]) {
-    let first = line.iter().position(|&byte| byte != b' ');
-    let line = &line[first.unwrap_or(line.len())..];
-    let end = line.iter().position(|&byte| byte == b' ');
-    line.split_at(end.unwrap_or(line.len()))
-}
-
-/// No word is left.
-fn end(words: &[u8]) -> Result<(), Error> {
-    if words.iter().all(|&byte| byte == b' ') {
-        Ok(())
-    } else {
-        Err(Error::Expected)
-    }
-}
-
-/// The words before and after the first word that is a slash.
-fn split_slash(words: &[u8]) -> Result<(&[u8], &[u8]), Error> {
-    let mut left = words;
-    loop {
-        let (word, rest) = split_word(left);
-        match word {
-            b"" => return Err(Error::Expected),
-            b"/" => return Ok((&words[..words.len() - rest.len() - word.len()], rest)),
-            _ => left = rest,
-        }
-    }
-}
-
-/// Appends bytes of two hex figures each, to the line's end.
-fn append_bytes(bytes: &mut Vec<u8>, words: &[u8]) -> Result<(), Error> {
-    let mut left = words;
-    loop {
-        match *left {
-            [] => return Ok(()),
-            [b' ', ref rest @ ..] => left = rest,
-            [high, low, ref rest @ ..] if matches!(rest.first(), None | Some(b' ')) => {
-                bytes.push(hex_byte(high, low).ok_or(Error::Expected)?);
-                left = rest;
-            }
-            _ => return Err(Error::Expected),
-        }
-    }
-}
-
-/// A number of one to ten figures, with no sign.
-fn number(word: &[u8]) -> Result<i64, Error> {
-    if word.len() > FIGURES_MOST {
-        return Err(Error::Expected);
-    }
-    decimal_value(word).ok_or(Error::Expected)
-}
-
-/// A number that its type can hold.
-fn unsigned<T: TryFrom<i64>>(word: &[u8]) -> Result<T, Error> {
-    T::try_from(number(word)?).map_err(|_| Error::Expected)
-}
-
-/// A number that may have a minus.
-fn signed(word: &[u8]) -> Result<i32, Error> {
-    let value = match word.split_first() {
-        Some((b'-', figures)) => -number(figures)?,
-        _ => number(word)?,
-    };
-    i32::try_from(value).map_err(|_| Error::Expected)
-}
-
-/// ROOM, and the words after it.
-fn room(words: &[u8]) -> Result<(usize, &[u8]), Error> {
-    let (room, words) = split_word(words);
-    let room = usize::from(unsigned::<u16>(room)?);
-    if room > ROOM_MOST {
-        return Err(Error::Expected);
-    }
-    Ok((room, words))
-}
-
-/// The entry at a place of a table.
-fn entry<T>(table: &mut [T], place: usize) -> Result<&mut T, Error> {
-    table.get_mut(place).ok_or(Error::Expected)
-}
-
-/// The entry at a place of the table `address`.
-fn address(card: &mut Card, place: usize) -> Result<&mut u32, Error> {
-    match place {
-        0 => Ok(&mut card.addresses.datalink),
-        1 => Ok(&mut card.addresses.lecom),
-        2 => Ok(&mut card.addresses.love),
-        _ => Err(Error::Expected),
-    }
-}
-
-/// Stores an entry of the table `pending`.
-fn poke_pending(card: &mut Card, place: usize, value: &[u8]) -> Result<(), Error> {
-    let pending = &mut card.pending;
-    match place {
-        0 => pending.kind = unsigned(value)?,
-        1 => pending.address = unsigned(value)?,
-        2 => pending.num = unsigned(value)?,
-        _ => *entry(&mut pending.data, place - 3)? = unsigned(value)?,
-    }
-    Ok(())
-}
-
-/// Shows the table `pending`: the data only as far as NUM, and nothing but the kind if there is none.
-fn peek_pending(card: &Card, out: &mut Vec<u8>) {
-    let pending = &card.pending;
-    write_entries(out, &[pending.kind]);
-    if pending.kind != card::PENDING_NONE {
-        out.push(b' ');
-        write_entries(out, &[pending.address, u16::from(pending.num)]);
-        let count = usize::from(pending.num).min(pending.data.len());
-        for &byte in &pending.data[..count] {
-            out.push(b' ');
-            write_entries(out, &[byte]);
-        }
     }
 }
 

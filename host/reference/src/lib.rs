@@ -6,6 +6,7 @@
 #![forbid(unsafe_code)]
 #![warn(missing_docs)]
 
+mod blocks;
 pub mod card;
 pub mod console;
 pub mod datalink;
@@ -15,6 +16,7 @@ pub mod lecom;
 pub mod love;
 pub mod lucid;
 pub mod master;
+mod message;
 pub mod numbers;
 
 #[cfg(test)]

@@ -1,7 +1,8 @@
 //! The Love dialect (document 01, "Love"; source document 004).
 
+use crate::blocks::{all_hex, padded, sum, sum_of};
 use crate::card::{Card, Tenths, LOVE_RANGE};
-use crate::figures::{decimal_value, four_figures, hex_figures, is_upper_hex};
+use crate::figures::{four_figures, hex_figures, is_upper_hex, value_of_four};
 use crate::numbers::{Number, Reply, ANSWER_ROOM};
 
 /// Shortest frame.
@@ -17,28 +18,23 @@ const ACK: u8 = 0x06;
 const ERROR_MARK: u8 = b'N';
 /// STX, filter and two address figures.
 const HEAD: usize = 4;
-/// Two checksum figures and ETX.
+/// Two checksum figures and ETX, or ACK in a reply.
 const TAIL: usize = 3;
-
-const DATA_LEAST: usize = 2;
 const DATA_MOST: usize = 10;
-const COMMAND: usize = 4;
 const PROCESS_VALUE: &[u8] = b"00";
+/// What a read and a write begin with, before the parameter's last figure.
+const READ: [u8; 3] = *b"010";
+const WRITE: [u8; 3] = *b"020";
 
-const UNDEFINED_COMMAND: ErrorCode = *b"01";
-const CHECKSUM_ERROR: ErrorCode = *b"02";
-const ILLEGAL_CHARACTER: ErrorCode = *b"04";
-const DATA_FIELD_ERROR: ErrorCode = *b"05";
-const VALUE_OUTSIDE: ErrorCode = *b"06";
+/// A refusal's number and error code.
+type Refusal = (Number, [u8; 2]);
 
-type ErrorCode = [u8; 2];
-
-/// The data of a normal reply.
-enum Data {
-    Short([u8; 2]),
-    Parameter([u8; 6]),
-    Process([u8; 8]),
-}
+const UNDEFINED_COMMAND: Refusal = (Number::Command, *b"01");
+const CHECKSUM_ERROR: Refusal = (Number::Check, *b"02");
+const ILLEGAL_CHARACTER: Refusal = (Number::Form, *b"04");
+const DATA_FIELD_ERROR: Refusal = (Number::Form, *b"05");
+const IMPROPER_VALUE: Refusal = (Number::Outside, *b"05");
+const VALUE_OUTSIDE: Refusal = (Number::Outside, *b"06");
 
 /// Entry: a Love frame.
 pub fn love(card: &mut Card, frame: &[u8], answer: &mut [u8]) -> Reply {
@@ -48,134 +44,155 @@ pub fn love(card: &mut Card, frame: &[u8], answer: &mut [u8]) -> Reply {
     let Some(answer) = answer.first_chunk_mut() else {
         return Reply::silent(Number::ShortBuffer);
     };
-    if !is_formed(frame) {
+    let [STX, _, high, low, data @ .., first, second, ETX] = frame else {
+        return Reply::silent(Number::Form);
+    };
+    if !(SHORTEST..=LONGEST).contains(&frame.len()) {
         return Reply::silent(Number::Form);
     }
     let head = head(card.addresses.love);
     if frame[..HEAD] != head {
-        return Reply::silent(Number::Foreign);
+        let is_formed = is_upper_hex(*high) && is_upper_hex(*low);
+        return Reply::silent(if is_formed { Number::Foreign } else { Number::Form });
     }
-    let result = exchange(card, &frame[HEAD - 2..frame.len() - 1]);
-    answer[..HEAD].copy_from_slice(&head);
-    match result {
-        Ok(data) => write_normal(&data, answer),
-        Err((number, code)) => write_error(number, code, answer),
+    let checksum = high.wrapping_add(*low).wrapping_add(data_sum(data));
+    if [*first, *second] != hex_figures(checksum) {
+        return send_error(head, CHECKSUM_ERROR, answer);
     }
-}
-
-/// Length, STX, ETX and address figures.
-fn is_formed(frame: &[u8]) -> bool {
-    (SHORTEST..=LONGEST).contains(&frame.len())
-        && frame[0] == STX
-        && frame[frame.len() - 1] == ETX
-        && is_upper_hex(frame[2])
-        && is_upper_hex(frame[3])
+    match exchange(card, head, data, answer) {
+        Ok(reply) => reply,
+        // Data that is carried out has hexadecimal figures alone; so this need be asked only here, though it comes first.
+        Err(_) if !is_hex(data) => send_error(head, ILLEGAL_CHARACTER, answer),
+        Err(refusal) => send_error(head, refusal, answer),
+    }
 }
 
 /// STX, filter and address figures of the card.
+#[inline(always)]
 fn head(address: u32) -> [u8; HEAD] {
-    let [_, _, hundreds, low] = address.to_be_bytes();
+    let [low, hundreds, ..] = address.to_le_bytes();
     let [first, second] = hex_figures(low);
     [STX, FILTER[usize::from(hundreds & 3)], first, second]
 }
 
-/// The order from the checksum on; `body` is address, data and checksum figures.
-fn exchange(card: &mut Card, body: &[u8]) -> Result<Data, (Number, ErrorCode)> {
-    let (summed, checksum) = body.split_at(body.len() - (TAIL - 1));
-    if checksum != hex_figures(sum(summed)) {
-        return Err((Number::Check, CHECKSUM_ERROR));
+/// The sum of the data characters modulo 256; those of a read or write are added one by one.
+#[inline(always)]
+fn data_sum(data: &[u8]) -> u8 {
+    if let Ok(data) = <&[u8; 2]>::try_from(data) {
+        sum_of(data)
+    } else if let Ok(data) = <&[u8; 4]>::try_from(data) {
+        sum_of(data)
+    } else if let Ok(data) = <&[u8; DATA_MOST]>::try_from(data) {
+        sum_of(data)
+    } else {
+        sum(&padded(data, 0))
     }
-    let data = &summed[2..];
-    if !data.iter().all(u8::is_ascii_hexdigit) {
-        return Err((Number::Form, ILLEGAL_CHARACTER));
+}
+
+/// Whether all data characters are hexadecimal figures of either case.
+#[inline(always)]
+fn is_hex(data: &[u8]) -> bool {
+    all_hex(&padded(data, b'0'))
+}
+
+/// The order after the characters.
+#[inline(always)]
+fn exchange(card: &mut Card, head: [u8; HEAD], data: &[u8], answer: &mut [u8; ANSWER_ROOM]) -> Result<Reply, Refusal> {
+    if data == PROCESS_VALUE {
+        return Ok(send(head, process_value(card), answer));
     }
-    let is_process_value = data.starts_with(PROCESS_VALUE);
-    match data.len() {
-        DATA_LEAST if is_process_value => Ok(process_value(card)),
-        COMMAND..=DATA_MOST if !is_process_value => command(card, data),
-        _ => Err((Number::Form, DATA_FIELD_ERROR)),
+    let Some((&[a, b, c, last], rest)) = data.split_first_chunk() else {
+        return Err(DATA_FIELD_ERROR);
+    };
+    match ([a, b, c], rest) {
+        (READ, []) => {
+            let value = card.love[parameter(last)?];
+            Ok(send(head, parameter_figures(value), answer))
+        }
+        (WRITE, &[a, b, c, d, e, f]) => {
+            // The parameter is asked for first: an unknown one is refused whatever the value.
+            let place = parameter(last)?;
+            card.love[place] = written_value([a, b, c, d], [e, f])?;
+            Ok(send(head, *b"00", answer))
+        }
+        _ => Err(refusal(data)),
+    }
+}
+
+/// Why data of four characters or more is refused that is neither a read nor a write by its length.
+#[inline(always)]
+fn refusal(data: &[u8]) -> Refusal {
+    match *data {
+        _ if data.len() > DATA_MOST => DATA_FIELD_ERROR,
+        [b'0', b'0', ..] => DATA_FIELD_ERROR,
+        [b'0', b'1' | b'2', b'0', b'0' | b'2' | b'4' | b'5', ..] => DATA_FIELD_ERROR,
+        _ => UNDEFINED_COMMAND,
+    }
+}
+
+/// The place of the parameter that a read or write names by its last figure: 00 SP1, 02 SP2, 04 ALLO, 05 ALHI.
+#[inline(always)]
+fn parameter(figure: u8) -> Result<usize, Refusal> {
+    match figure {
+        b'0' => Ok(0),
+        b'2' => Ok(1),
+        b'4' => Ok(2),
+        b'5' => Ok(3),
+        _ => Err(UNDEFINED_COMMAND),
     }
 }
 
 /// Probe 0 with its status characters; a failed probe is answered too.
-fn process_value(card: &Card) -> Data {
+#[inline(always)]
+fn process_value(card: &Card) -> [u8; 8] {
     let Some(Tenths(tenths)) = card.temperature(0) else {
-        return Data::Process(*b"D0000000");
+        return *b"D0000000";
     };
     let sign = if tenths < 0 { b'2' } else { b'0' };
     let [a, b, c, d] = four_figures(u32::from(tenths.unsigned_abs()));
-    Data::Process([b'C', b'0', b'0', sign, a, b, c, d])
-}
-
-/// A command of four characters or more: 01 reads and 02 writes SP1, SP2, ALLO or ALHI.
-fn command(card: &mut Card, data: &[u8]) -> Result<Data, (Number, ErrorCode)> {
-    let unknown = Err((Number::Command, UNDEFINED_COMMAND));
-    let wrong_length = Err((Number::Form, DATA_FIELD_ERROR));
-    let parameter = match &data[2..COMMAND] {
-        b"00" => &mut card.love[0],
-        b"02" => &mut card.love[1],
-        b"04" => &mut card.love[2],
-        b"05" => &mut card.love[3],
-        _ => return unknown,
-    };
-    match (&data[..2], data.len()) {
-        (b"01", COMMAND) => Ok(parameter_figures(*parameter)),
-        (b"02", DATA_MOST) => {
-            *parameter = written_value(&data[COMMAND..])?;
-            Ok(Data::Short(*b"00"))
-        }
-        (b"01" | b"02", _) => wrong_length,
-        _ => unknown,
-    }
+    [b'C', b'0', b'0', sign, a, b, c, d]
 }
 
 /// Sign and four figures of a parameter.
-fn parameter_figures(value: i32) -> Data {
+#[inline(always)]
+fn parameter_figures(value: i32) -> [u8; 6] {
     let sign = if value < 0 { b'1' } else { b'0' };
     let [a, b, c, d] = four_figures(value.unsigned_abs());
-    Data::Parameter([b'0', sign, a, b, c, d])
+    [b'0', sign, a, b, c, d]
 }
 
 /// Four decimal figures and a sign, in a parameter's range.
-fn written_value(data: &[u8]) -> Result<i32, (Number, ErrorCode)> {
-    let improper = (Number::Outside, DATA_FIELD_ERROR);
-    let (figures, sign) = data.split_at(4);
-    let magnitude = decimal_value(figures).ok_or(improper)? as i32;
+#[inline(always)]
+fn written_value(figures: [u8; 4], sign: [u8; 2]) -> Result<i32, Refusal> {
+    let magnitude = value_of_four(figures).ok_or(IMPROPER_VALUE)?;
     let value = match sign {
-        b"00" => magnitude,
+        [b'0', b'0'] => magnitude,
         [b'F' | b'f', b'F' | b'f'] => -magnitude,
-        _ => return Err(improper),
+        _ => return Err(IMPROPER_VALUE),
     };
-    let (least, most) = LOVE_RANGE;
-    if (least..=most).contains(&value) {
-        Ok(value)
-    } else {
-        Err((Number::Outside, VALUE_OUTSIDE))
+    if LOVE_RANGE.excludes(value) {
+        return Err(VALUE_OUTSIDE);
     }
+    Ok(value)
 }
 
-/// Appends data, checksum and ACK to the head; the card's checksum takes in its filter.
-fn write_normal(data: &Data, answer: &mut [u8; ANSWER_ROOM]) -> Reply {
-    let data: &[u8] = match data {
-        Data::Short(characters) => characters,
-        Data::Parameter(characters) => characters,
-        Data::Process(characters) => characters,
-    };
-    let end = HEAD + data.len();
-    answer[HEAD..end].copy_from_slice(data);
-    let [high, low] = hex_figures(sum(&answer[1..end]));
-    answer[end..end + TAIL].copy_from_slice(&[high, low, ACK]);
-    Reply::answered(end + TAIL)
+/// Sends data between head and checksum; the card's checksum takes in its filter.
+#[inline(always)]
+fn send<const N: usize>(head: [u8; HEAD], data: [u8; N], answer: &mut [u8; ANSWER_ROOM]) -> Reply {
+    let [_, filter, high, low] = head;
+    let checksum = sum_of(&[filter, high, low]).wrapping_add(sum_of(&data));
+    let [high, low] = hex_figures(checksum);
+    answer[..HEAD].copy_from_slice(&head);
+    answer[HEAD..HEAD + N].copy_from_slice(&data);
+    answer[HEAD + N..HEAD + N + TAIL].copy_from_slice(&[high, low, ACK]);
+    Reply::answered(HEAD + N + TAIL)
 }
 
-/// Appends N, the error code and ACK to the head.
-fn write_error(number: Number, [high, low]: ErrorCode, answer: &mut [u8; ANSWER_ROOM]) -> Reply {
+/// Sends N and the error code, without a checksum.
+#[inline(always)]
+fn send_error(head: [u8; HEAD], (number, [high, low]): Refusal, answer: &mut [u8; ANSWER_ROOM]) -> Reply {
     let length = HEAD + 4;
+    answer[..HEAD].copy_from_slice(&head);
     answer[HEAD..length].copy_from_slice(&[ERROR_MARK, high, low, ACK]);
     Reply { number, length }
-}
-
-/// The sum of characters modulo 256.
-fn sum(characters: &[u8]) -> u8 {
-    characters.iter().fold(0, |sum, &character| sum.wrapping_add(character))
 }

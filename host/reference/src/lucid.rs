@@ -1,6 +1,6 @@
 //! The LucidControl dialect (document 01, "LucidControl"; source document 002).
 
-use crate::card::{parameter_fit, Card, Hundredths, CHANNELS, CHANNEL_PARAMETERS, PARAMETER_DEFAULTS};
+use crate::card::{Card, Hundredths, Tenths, CHANNELS, CHANNEL_PARAMETERS, PARAMETER_DEFAULTS, PARAMETER_RANGES};
 use crate::numbers::{Number, Reply, ANSWER_ROOM};
 
 /// Shortest frame.
@@ -29,8 +29,6 @@ const PARAMETER_ADDRESSES: [u16; CHANNEL_PARAMETERS] = [0x1110, 0x1120];
 const OK: u8 = 0x00;
 /// Status and LEN.
 const HEAD: usize = 2;
-/// Longest data of an answer: four channels of four bytes.
-const DATA_MOST: usize = 4 * CHANNELS;
 
 /// A refusal's number and status.
 type Refusal = (Number, u8);
@@ -46,42 +44,19 @@ const INV_PARAM: Refusal = (Number::Unknown, 0xBA);
 const INV_DATA: Refusal = (Number::Outside, 0xC0);
 const ERR_EXECUTION: Refusal = (Number::Fault, 0xD0);
 
-/// The data of an answer, put together before the answer buffer is touched.
-struct Data {
-    bytes: [u8; DATA_MOST],
-    length: usize,
-}
-
-impl Data {
-    const EMPTY: Self = Self {
-        bytes: [0; DATA_MOST],
-        length: 0,
-    };
-
-    #[inline]
-    fn push<const N: usize>(&mut self, value: [u8; N]) {
-        self.bytes[self.length..self.length + N].copy_from_slice(&value);
-        self.length += N;
-    }
-}
-
 /// Entry: a LucidControl frame.
 pub fn lucid(card: &mut Card, frame: &[u8], answer: &mut [u8]) -> Reply {
     if !card.is_fit() {
         return Reply::silent(Number::Unfit);
     }
-    let Some(answer) = answer.first_chunk_mut::<ANSWER_ROOM>() else {
+    let Some(answer) = answer.first_chunk_mut() else {
         return Reply::silent(Number::ShortBuffer);
     };
     if !(SHORTEST..=LONGEST).contains(&frame.len()) {
         return Reply::silent(Number::Form);
     }
-    match exchange(card, frame) {
-        Ok(Data { bytes, length }) => {
-            answer[..HEAD].copy_from_slice(&[OK, length as u8]);
-            answer[HEAD..HEAD + length].copy_from_slice(&bytes[..length]);
-            Reply::answered(HEAD + length)
-        }
+    match exchange(card, frame, answer) {
+        Ok(length) => Reply::answered(length),
         Err((number, status)) => {
             answer[..HEAD].copy_from_slice(&[status, 0]);
             Reply { number, length: HEAD }
@@ -89,8 +64,9 @@ pub fn lucid(card: &mut Card, frame: &[u8], answer: &mut [u8]) -> Reply {
     }
 }
 
-/// LEN against slice, OPC, channel or mask; then the command.
-fn exchange(card: &mut Card, frame: &[u8]) -> Result<Data, Refusal> {
+/// LEN against slice, OPC, channel or mask; then the command. Gives the length of the answer.
+#[inline(always)]
+fn exchange(card: &mut Card, frame: &[u8], answer: &mut [u8; ANSWER_ROOM]) -> Result<usize, Refusal> {
     let Some((&[opcode, p1, p2, len], data)) = frame.split_first_chunk() else {
         return Err(INV_LENGTH);
     };
@@ -98,14 +74,36 @@ fn exchange(card: &mut Card, frame: &[u8]) -> Result<Data, Refusal> {
         return Err(INV_LENGTH);
     }
     match opcode {
-        GET_IO => get(card, single(p1)?, p2, data),
-        GET_IO_GROUP => get(card, group(p1)?, p2, data),
-        SET_IO => set(card, single(p1)?, p2, data),
-        SET_IO_GROUP => set(card, group(p1)?, p2, data),
-        SET_PARAM => set_param(card, channel(p1)?, p2, data),
-        GET_PARAM => get_param(card, channel(p1)?, p2, data),
+        GET_IO => get(card, channel(p1)?, p2, data, answer),
+        GET_IO_GROUP => get_group(card, group(p1)?, p2, data, answer),
+        SET_IO => set(card, channel(p1)?, p2, data, answer),
+        SET_IO_GROUP => set_group(card, group(p1)?, p2, data, answer),
+        SET_PARAM => set_param(card, channel(p1)?, p2, data, answer),
+        GET_PARAM => get_param(card, channel(p1)?, p2, data, answer),
         _ => Err(NO_SUPPORT),
     }
+}
+
+/// Sends status, LEN and one value, or none; gives the answer's length.
+#[inline(always)]
+fn send<const N: usize>(value: [u8; N], answer: &mut [u8; ANSWER_ROOM]) -> usize {
+    answer[..HEAD].copy_from_slice(&[OK, N as u8]);
+    answer[HEAD..HEAD + N].copy_from_slice(&value);
+    HEAD + N
+}
+
+/// Sends status, LEN and the values of the channels of a mask in ascending order; gives the answer's length.
+#[inline(always)]
+fn send_group<const N: usize>(mask: u8, values: [[u8; N]; CHANNELS], answer: &mut [u8; ANSWER_ROOM]) -> usize {
+    let mut end = HEAD;
+    for (channel, value) in values.iter().enumerate() {
+        if names(mask, channel) {
+            answer[end..end + N].copy_from_slice(value);
+            end += N;
+        }
+    }
+    answer[..HEAD].copy_from_slice(&[OK, (end - HEAD) as u8]);
+    end
 }
 
 /// P1 as a channel number.
@@ -118,11 +116,6 @@ fn channel(p1: u8) -> Result<usize, Refusal> {
     }
 }
 
-/// The mask of the one channel that P1 numbers.
-fn single(p1: u8) -> Result<u8, Refusal> {
-    Ok(1 << channel(p1)?)
-}
-
 /// P1 as a mask of channels.
 fn group(p1: u8) -> Result<u8, Refusal> {
     if (1..=MASK_MOST).contains(&p1) {
@@ -132,55 +125,142 @@ fn group(p1: u8) -> Result<u8, Refusal> {
     }
 }
 
-/// The channels of a mask in ascending order.
-fn channels(mask: u8) -> impl Iterator<Item = usize> {
-    (0..CHANNELS).filter(move |channel| mask >> channel & 1 != 0)
+/// Whether a mask names a channel.
+#[inline(always)]
+fn names(mask: u8, channel: usize) -> bool {
+    mask >> channel & 1 != 0
 }
 
-/// GetIo and GetIoGroup: type, LEN, fault.
-fn get(card: &Card, mask: u8, value_type: u8, data: &[u8]) -> Result<Data, Refusal> {
+/// Type and LEN of a GetIo or GetIoGroup.
+#[inline(always)]
+fn check_get(value_type: u8, data: &[u8]) -> Result<(), Refusal> {
     if !matches!(value_type, TYPE_DEMAND | TYPE_TENTHS | TYPE_HUNDREDTHS) {
         return Err(INV_TYPE);
     }
     if !data.is_empty() {
         return Err(INV_LENGTH);
     }
-    let mut values = Data::EMPTY;
-    for channel in channels(mask) {
-        if value_type == TYPE_DEMAND {
-            values.push((card.demand[channel] as u16).to_le_bytes());
-            continue;
-        }
-        let Some(tenths) = card.temperature(channel) else {
-            return Err(ERR_EXECUTION);
-        };
-        if value_type == TYPE_TENTHS {
-            values.push(tenths.0.to_le_bytes());
-        } else {
-            values.push(Hundredths::from(tenths).0.to_le_bytes());
-        }
-    }
-    Ok(values)
+    Ok(())
 }
 
-/// SetIo and SetIoGroup: type, probe written, LEN. Every demand of two bytes is in its range.
-fn set(card: &mut Card, mask: u8, value_type: u8, data: &[u8]) -> Result<Data, Refusal> {
-    match value_type {
-        TYPE_DEMAND => {}
-        TYPE_TENTHS | TYPE_HUNDREDTHS => return Err(PROBE_WRITTEN),
-        _ => return Err(INV_TYPE),
+/// GetIo: type, LEN, fault.
+#[inline(always)]
+fn get(
+    card: &Card,
+    channel: usize,
+    value_type: u8,
+    data: &[u8],
+    answer: &mut [u8; ANSWER_ROOM],
+) -> Result<usize, Refusal> {
+    check_get(value_type, data)?;
+    if value_type == TYPE_DEMAND {
+        return Ok(send(demand(card.demand[channel]), answer));
     }
+    let Some(tenths) = card.temperature(channel) else {
+        return Err(ERR_EXECUTION);
+    };
+    if value_type == TYPE_TENTHS {
+        Ok(send(tenths.0.to_le_bytes(), answer))
+    } else {
+        Ok(send(Hundredths::from(tenths).0.to_le_bytes(), answer))
+    }
+}
+
+/// GetIoGroup: type, LEN, fault. One failed probe refuses the group.
+#[inline(always)]
+fn get_group(
+    card: &Card,
+    mask: u8,
+    value_type: u8,
+    data: &[u8],
+    answer: &mut [u8; ANSWER_ROOM],
+) -> Result<usize, Refusal> {
+    check_get(value_type, data)?;
+    if value_type == TYPE_DEMAND {
+        return Ok(send_group(mask, card.demand.map(demand), answer));
+    }
+    let mut group = [Tenths(0); CHANNELS];
+    for (channel, entry) in group.iter_mut().enumerate() {
+        match card.temperature(channel) {
+            Some(tenths) => *entry = tenths,
+            None if names(mask, channel) => return Err(ERR_EXECUTION),
+            None => {}
+        }
+    }
+    if value_type == TYPE_TENTHS {
+        Ok(send_group(mask, group.map(|tenths| tenths.0.to_le_bytes()), answer))
+    } else {
+        let hundredths = group.map(|tenths| Hundredths::from(tenths).0.to_le_bytes());
+        Ok(send_group(mask, hundredths, answer))
+    }
+}
+
+/// A demand as it is answered.
+#[inline(always)]
+fn demand(value: u32) -> [u8; DEMAND_SIZE] {
+    (value as u16).to_le_bytes()
+}
+
+/// Type and probe written of a SetIo or SetIoGroup.
+#[inline(always)]
+fn check_set(value_type: u8) -> Result<(), Refusal> {
+    match value_type {
+        TYPE_DEMAND => Ok(()),
+        TYPE_TENTHS | TYPE_HUNDREDTHS => Err(PROBE_WRITTEN),
+        _ => Err(INV_TYPE),
+    }
+}
+
+/// SetIo: type, probe written, LEN. Every demand of two bytes is in its range.
+#[inline(always)]
+fn set(
+    card: &mut Card,
+    channel: usize,
+    value_type: u8,
+    data: &[u8],
+    answer: &mut [u8; ANSWER_ROOM],
+) -> Result<usize, Refusal> {
+    check_set(value_type)?;
+    let &[low, high] = data else {
+        return Err(INV_LENGTH);
+    };
+    card.demand[channel] = u16::from_le_bytes([low, high]).into();
+    Ok(send([], answer))
+}
+
+/// SetIoGroup: the same for each channel of the mask.
+#[inline(always)]
+fn set_group(
+    card: &mut Card,
+    mask: u8,
+    value_type: u8,
+    data: &[u8],
+    answer: &mut [u8; ANSWER_ROOM],
+) -> Result<usize, Refusal> {
+    check_set(value_type)?;
     if data.len() != DEMAND_SIZE * mask.count_ones() as usize {
         return Err(INV_LENGTH);
     }
-    for (channel, value) in channels(mask).zip(data.chunks_exact(DEMAND_SIZE)) {
-        card.demand[channel] = u32::from(u16::from_le_bytes([value[0], value[1]]));
+    let mut values = data.as_chunks().0.iter();
+    for (channel, entry) in card.demand.iter_mut().enumerate() {
+        if names(mask, channel) {
+            if let Some(&value) = values.next() {
+                *entry = u16::from_le_bytes(value).into();
+            }
+        }
     }
-    Ok(Data::EMPTY)
+    Ok(send([], answer))
 }
 
 /// SetParam: option, LEN, parameter address, value.
-fn set_param(card: &mut Card, channel: usize, option: u8, data: &[u8]) -> Result<Data, Refusal> {
+#[inline(always)]
+fn set_param(
+    card: &mut Card,
+    channel: usize,
+    option: u8,
+    data: &[u8],
+    answer: &mut [u8; ANSWER_ROOM],
+) -> Result<usize, Refusal> {
     if option & !(OPTION_DEFAULT | OPTION_PERSISTENT) != 0 {
         return Err(INV_OPTION);
     }
@@ -192,40 +272,45 @@ fn set_param(card: &mut Card, channel: usize, option: u8, data: &[u8]) -> Result
         for (parameter, value) in PARAMETER_DEFAULTS.into_iter().enumerate() {
             store(card, channel, parameter, value, persistent);
         }
-        return Ok(Data::EMPTY);
+        return Ok(send([], answer));
     }
     let &[low, high, a, b, c, d] = data else {
         return Err(INV_LENGTH);
     };
     let parameter = parameter(low, high)?;
     let value = u32::from_le_bytes([a, b, c, d]);
-    if !parameter_fit(value, parameter) {
+    if PARAMETER_RANGES[parameter].excludes_unsigned(value) {
         return Err(INV_DATA);
     }
     store(card, channel, parameter, value, persistent);
-    Ok(Data::EMPTY)
+    Ok(send([], answer))
 }
 
 /// Sets a parameter, and its saved copy if that is asked.
 fn store(card: &mut Card, channel: usize, parameter: usize, value: u32, persistent: bool) {
-    card.parameter[channel][parameter] = value;
+    card.parameter[parameter][channel] = value;
     if persistent {
-        card.kept[channel][parameter] = value;
+        card.kept[parameter][channel] = value;
     }
 }
 
 /// GetParam: option, LEN, parameter address.
-fn get_param(card: &Card, channel: usize, option: u8, data: &[u8]) -> Result<Data, Refusal> {
+#[inline(always)]
+fn get_param(
+    card: &Card,
+    channel: usize,
+    option: u8,
+    data: &[u8],
+    answer: &mut [u8; ANSWER_ROOM],
+) -> Result<usize, Refusal> {
     if option != 0 {
         return Err(INV_OPTION);
     }
     let &[low, high] = data else {
         return Err(INV_LENGTH);
     };
-    let value = card.parameter[channel][parameter(low, high)?];
-    let mut values = Data::EMPTY;
-    values.push(value.to_le_bytes());
-    Ok(values)
+    let value = card.parameter[parameter(low, high)?][channel];
+    Ok(send(value.to_le_bytes(), answer))
 }
 
 /// Which of a channel's parameters an address names.

@@ -1,15 +1,13 @@
 //! The Datalink line master (document 01, "Datalink", second half).
 
-use crate::datalink::{
-    forced, write_frame, ACKNOWLEDGE, CHANGE, CHANGE_BITS, HEAD, INTERROGATE, LONGEST, RESPONSE, START,
-};
-use crate::numbers::Number;
+use crate::blocks::{padded, sum, sum_of_first};
+use crate::datalink::LONGEST;
+use crate::message::{data_room, forced, Head, ACKNOWLEDGE, CHANGE, CHANGE_BITS, HEAD, INTERROGATE, START};
+use crate::numbers::{Number, Reply};
 
 const IA_MOST: u32 = 31;
 const ADDRESS_MOST: u32 = 65_535;
-const ADDRESS_END: u64 = 65_536;
-const BYTES_MOST: usize = 32;
-const BITS_MOST: usize = 16;
+const ADDRESS_END: usize = 65_536;
 
 /// What is asked of the card at one I.A.
 #[derive(Clone, Copy, PartialEq, Eq, Debug)]
@@ -47,17 +45,6 @@ pub enum Says {
     Unknown,
 }
 
-/// What one step hands over.
-#[derive(Clone, Copy, PartialEq, Eq, Debug)]
-pub struct Step {
-    /// 0 with a frame, 1 at the end, or 7, 11, 10 for a refused step.
-    pub number: Number,
-    /// What the master says after the step.
-    pub says: Says,
-    /// The frame's length.
-    pub length: usize,
-}
-
 /// The frame last sent, or how the exchange ended.
 #[derive(Clone, Copy, PartialEq, Eq, Debug)]
 enum State {
@@ -89,15 +76,6 @@ impl Master {
             _ => Says::Open,
         }
     }
-
-    /// A refused step: nothing is handed over and the state stays.
-    fn refused(&self, number: Number) -> Step {
-        Step {
-            number,
-            says: self.says(),
-            length: 0,
-        }
-    }
 }
 
 impl Default for Master {
@@ -106,118 +84,263 @@ impl Default for Master {
     }
 }
 
-/// Entry: the master's next step, with the answer that the frame last sent got, if any.
-pub fn step(master: &mut Master, request: &Request, answer: Option<&[u8]>, frame: &mut [u8]) -> Step {
-    let Some(plan) = Plan::of(request) else {
-        return master.refused(Number::Outside);
-    };
-    let Some(frame) = frame.first_chunk_mut() else {
-        return master.refused(Number::ShortBuffer);
-    };
-    let (state, length) = match master.state {
-        State::New => {
-            let command = plan.change_command();
-            (State::ChangeSent, plan.write_change(command, frame))
+/// Entry: the master's next step, with the answer that the frame last sent got, if any. Gives 0 with a frame, 1 at the
+/// end, or 7, 11, 10 for a refused step, which moves nothing.
+pub fn step(master: &mut Master, request: &Request, answer: Option<&[u8]>, frame: &mut [u8]) -> Reply {
+    let answer = answer.unwrap_or_default();
+    match request.order {
+        Order::Bytes(bytes) => step_of(Bytes(bytes), master, request, answer, frame),
+        Order::Bits { masks, states } if masks.len() == states.len() => {
+            let states = &states[..masks.len()];
+            step_of(Bits { masks, states }, master, request, answer, frame)
         }
-        State::ChangeSent if plan.is_echo(answer) => (State::AcknowledgeSent, plan.write_acknowledge(frame)),
-        State::AcknowledgeSent => (State::InterrogateSent, plan.write_interrogate(frame)),
-        State::InterrogateSent if plan.is_as_asked(answer) => (State::Done, 0),
-        State::ChangeSent | State::InterrogateSent => (State::Unknown, 0),
-        State::Done | State::Unknown => return master.refused(Number::NothingPending),
-    };
-    master.state = state;
-    Step {
-        number: if length > 0 { Number::Answered } else { Number::Silent },
-        says: master.says(),
-        length,
+        Order::Bits { .. } => Reply::silent(Number::Outside),
     }
 }
 
-/// A request that 7 does not refuse, in the widths of the wire.
-struct Plan<'a> {
-    ia: u8,
-    address: u16,
-    /// Bytes named.
-    named: u8,
-    order: Order<'a>,
+/// The step for either kind of change.
+#[inline(always)]
+fn step_of(change: impl Change, master: &mut Master, request: &Request, answer: &[u8], frame: &mut [u8]) -> Reply {
+    let Some(plan) = Plan::of(change, request) else {
+        return Reply::silent(Number::Outside);
+    };
+    let Some(frame) = frame.first_chunk_mut() else {
+        return Reply::silent(Number::ShortBuffer);
+    };
+    match master.state {
+        State::New => {
+            master.state = State::ChangeSent;
+            Reply::answered(plan.write_change(frame))
+        }
+        State::ChangeSent if plan.is_echo(answer) => {
+            master.state = State::AcknowledgeSent;
+            Reply::answered(plan.write_acknowledge(frame))
+        }
+        State::AcknowledgeSent => {
+            master.state = State::InterrogateSent;
+            Reply::answered(plan.write_interrogate(frame))
+        }
+        State::InterrogateSent if plan.is_as_asked(answer) => {
+            master.state = State::Done;
+            Reply::silent(Number::Silent)
+        }
+        State::ChangeSent | State::InterrogateSent => {
+            master.state = State::Unknown;
+            Reply::silent(Number::Silent)
+        }
+        State::Done | State::Unknown => Reply::silent(Number::NothingPending),
+    }
 }
 
-impl<'a> Plan<'a> {
-    /// None exactly where document 01 refuses the request with 7.
-    fn of(request: &Request<'a>) -> Option<Self> {
-        let (named, most) = match request.order {
-            Order::Bytes(bytes) => (bytes.len(), BYTES_MOST),
-            Order::Bits { masks, states } if masks.len() == states.len() => (masks.len(), BITS_MOST),
-            Order::Bits { .. } => return None,
-        };
+/// The bytes or bits of a request: what its change sends, and what must come back.
+trait Change: Copy {
+    /// Change for bytes, Change Bits for bits.
+    const COMMAND: u8;
+    /// Most bytes named.
+    const MOST: usize;
+    /// Data bytes of the change for each byte named.
+    const WIDTH: usize;
+
+    /// How many bytes are named.
+    fn named(self) -> usize;
+    /// Writes the data of the change.
+    fn write(self, data: &mut [u8]);
+    /// Whether this is the data of the change.
+    fn is_sent(self, data: &[u8]) -> bool;
+    /// Whether the bytes read back are as asked.
+    fn is_as_asked(self, bytes: &[u8]) -> bool;
+}
+
+/// New bytes.
+#[derive(Clone, Copy)]
+struct Bytes<'a>(&'a [u8]);
+
+impl Change for Bytes<'_> {
+    const COMMAND: u8 = CHANGE;
+    const MOST: usize = 32;
+    const WIDTH: usize = 1;
+
+    #[inline(always)]
+    fn named(self) -> usize {
+        self.0.len()
+    }
+
+    #[inline(always)]
+    fn write(self, data: &mut [u8]) {
+        data.copy_from_slice(self.0);
+    }
+
+    #[inline(always)]
+    fn is_sent(self, data: &[u8]) -> bool {
+        data == self.0
+    }
+
+    #[inline(always)]
+    fn is_as_asked(self, bytes: &[u8]) -> bool {
+        bytes == self.0
+    }
+}
+
+/// As many states as masks.
+#[derive(Clone, Copy)]
+struct Bits<'a> {
+    masks: &'a [u8],
+    states: &'a [u8],
+}
+
+impl Change for Bits<'_> {
+    const COMMAND: u8 = CHANGE_BITS;
+    const MOST: usize = 16;
+    const WIDTH: usize = 2;
+
+    #[inline(always)]
+    fn named(self) -> usize {
+        self.masks.len()
+    }
+
+    /// Eight masks and states at once, as far as there are eight.
+    #[inline(always)]
+    fn write(self, data: &mut [u8]) {
+        let pairs = data.as_chunks_mut::<2>().0;
+        let (masks, states) = (&self.masks[..pairs.len()], &self.states[..pairs.len()]);
+        let mut first = 0;
+        while let (Some(pairs), Some(masks), Some(states)) = (
+            pairs[first..].first_chunk_mut::<8>(),
+            masks[first..].first_chunk::<8>(),
+            states[first..].first_chunk::<8>(),
+        ) {
+            for ((pair, &mask), &state) in pairs.iter_mut().zip(masks).zip(states) {
+                *pair = [mask, state];
+            }
+            first += 8;
+        }
+        while first < pairs.len() {
+            pairs[first] = [masks[first], states[first]];
+            first += 1;
+        }
+    }
+
+    #[inline(always)]
+    fn is_sent(self, data: &[u8]) -> bool {
+        self.all(data.as_chunks().0, |pair, mask, state| pair == [mask, state])
+    }
+
+    #[inline(always)]
+    fn is_as_asked(self, bytes: &[u8]) -> bool {
+        self.all(bytes, |byte, mask, state| forced(byte, mask, state) == byte)
+    }
+}
+
+impl Bits<'_> {
+    /// Whether something holds of each item with its mask and state, asked of eight at once as far as there are eight.
+    #[inline(always)]
+    fn all<T: Copy>(self, items: &[T], holds: impl Fn(T, u8, u8) -> bool) -> bool {
+        let (masks, states) = (&self.masks[..items.len()], &self.states[..items.len()]);
+        let mut first = 0;
+        while let (Some(items), Some(masks), Some(states)) = (
+            items[first..].first_chunk::<8>(),
+            masks[first..].first_chunk::<8>(),
+            states[first..].first_chunk::<8>(),
+        ) {
+            if !(0..8).fold(true, |all, place| {
+                all & holds(items[place], masks[place], states[place])
+            }) {
+                return false;
+            }
+            first += 8;
+        }
+        while first < items.len() {
+            if !holds(items[first], masks[first], states[first]) {
+                return false;
+            }
+            first += 1;
+        }
+        true
+    }
+}
+
+/// A request that 7 does not refuse.
+struct Plan<C> {
+    change: C,
+    ia: u8,
+    address: u16,
+}
+
+impl<C: Change> Plan<C> {
+    /// None exactly where document 01 refuses the request with 7, but for masks and states that differ in number.
+    #[inline(always)]
+    fn of(change: C, request: &Request) -> Option<Self> {
+        let named = change.named();
         let fits = request.ia <= IA_MOST
-            && named <= most
+            && named <= C::MOST
             && request.address <= ADDRESS_MOST
-            && u64::from(request.address) + named as u64 <= ADDRESS_END;
+            && request.address as usize + named <= ADDRESS_END;
         fits.then_some(Self {
+            change,
             ia: request.ia as u8,
             address: request.address as u16,
-            named: named as u8,
-            order: request.order,
         })
     }
 
-    /// Change for bytes, Change Bits for bits.
-    fn change_command(&self) -> u8 {
-        match self.order {
-            Order::Bytes(_) => CHANGE,
-            Order::Bits { .. } => CHANGE_BITS,
-        }
+    /// The head of the change.
+    #[inline(always)]
+    fn change_head(&self) -> Head {
+        let num = C::WIDTH * self.change.named();
+        Head::new(C::COMMAND | self.ia, num as u8, self.address)
     }
 
-    /// Writes the change under the given command bits, the master's or those of its echo.
-    fn write_change(&self, command: u8, frame: &mut [u8; LONGEST]) -> usize {
-        let command = command | self.ia;
-        match self.order {
-            Order::Bytes(bytes) => write_frame(frame, command, self.named, self.address, bytes),
-            Order::Bits { masks, states } => {
-                let mut data = [0; 2 * BITS_MOST];
-                for (pair, (&mask, &state)) in data.chunks_exact_mut(2).zip(masks.iter().zip(states)) {
-                    pair.copy_from_slice(&[mask, state]);
-                }
-                let num = 2 * self.named;
-                let data = &data[..usize::from(num)];
-                write_frame(frame, command, num, self.address, data)
-            }
-        }
+    /// The head of the interrogate.
+    #[inline(always)]
+    fn interrogate_head(&self) -> Head {
+        Head::new(INTERROGATE | self.ia, self.change.named() as u8, self.address)
     }
 
+    #[inline(always)]
+    fn write_change(&self, frame: &mut [u8; LONGEST]) -> usize {
+        let head = self.change_head();
+        let end = HEAD + C::WIDTH * self.change.named();
+        head.write(&[], frame);
+        self.change.write(&mut frame[HEAD..end]);
+        frame[end] = head.sum().wrapping_add(sum_of_first(end - HEAD, data_room(frame)));
+        end + 1
+    }
+
+    #[inline(always)]
     fn write_acknowledge(&self, frame: &mut [u8; LONGEST]) -> usize {
         let acknowledge = [START, ACKNOWLEDGE | self.ia];
         frame[..acknowledge.len()].copy_from_slice(&acknowledge);
         acknowledge.len()
     }
 
+    #[inline(always)]
     fn write_interrogate(&self, frame: &mut [u8; LONGEST]) -> usize {
-        write_frame(frame, INTERROGATE | self.ia, self.named, self.address, &[])
+        let head = self.interrogate_head();
+        head.write(&[], frame);
+        frame[HEAD] = head.sum();
+        HEAD + 1
     }
 
     /// Whether the answer is the change's exact echo.
-    fn is_echo(&self, answer: Option<&[u8]>) -> bool {
-        let mut echo = [0; LONGEST];
-        let length = self.write_change(RESPONSE, &mut echo);
-        answer == Some(&echo[..length])
+    #[inline(always)]
+    fn is_echo(&self, answer: &[u8]) -> bool {
+        let count = C::WIDTH * self.change.named();
+        response_data(answer, self.change_head(), count).is_some_and(|data| self.change.is_sent(data))
     }
 
     /// Whether the answer is a response to the interrogate with every byte, or every forced bit, as asked.
-    fn is_as_asked(&self, answer: Option<&[u8]>) -> bool {
-        let named = usize::from(self.named);
-        let Some(data) = answer.and_then(|answer| answer.get(HEAD..HEAD + named)) else {
-            return false;
-        };
-        let mut response = [0; LONGEST];
-        let command = RESPONSE | self.ia;
-        let length = write_frame(&mut response, command, self.named, self.address, data);
-        answer == Some(&response[..length])
-            && match self.order {
-                Order::Bytes(bytes) => data == bytes,
-                Order::Bits { masks, states } => (data.iter().zip(masks).zip(states))
-                    .all(|((&byte, &mask), &state)| forced(byte, mask, state) == byte),
-            }
+    #[inline(always)]
+    fn is_as_asked(&self, answer: &[u8]) -> bool {
+        let count = self.change.named();
+        response_data(answer, self.interrogate_head(), count).is_some_and(|bytes| self.change.is_as_asked(bytes))
     }
+}
+
+/// The data of an answer that is a response to a request with this head, has this many data bytes and a right LRC.
+#[inline(always)]
+fn response_data(answer: &[u8], request: Head, count: usize) -> Option<&[u8]> {
+    if answer.len() != HEAD + count + 1 || answer[0] != START {
+        return None;
+    }
+    let (head, data, lrc) = Head::take(answer)?;
+    (head == request.response() && head.sum().wrapping_add(sum(&padded(data, 0))) == lrc).then_some(data)
 }

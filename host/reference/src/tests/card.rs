@@ -31,8 +31,8 @@ fn restart_goes_back_to_what_is_saved() {
     card.buffer[5] = 1;
     card.operational[5] = 2;
     card.saved[5] = 3;
-    card.parameter[2][0] = 5_000;
-    card.kept[2][0] = 6_000;
+    card.parameter[0][2] = 5_000;
+    card.kept[0][2] = 6_000;
     card.demand[1] = 7;
     card.love[1] = 8;
     card.memory[0] = 9;
@@ -41,7 +41,7 @@ fn restart_goes_back_to_what_is_saved() {
     card.pending.address = 0x1010;
     assert_eq!(restart(&mut card), Number::Silent);
     assert_eq!((card.buffer[5], card.operational[5], card.saved[5]), (3, 3, 3));
-    assert_eq!((card.parameter[2][0], card.kept[2][0]), (6_000, 6_000));
+    assert_eq!((card.parameter[0][2], card.kept[0][2]), (6_000, 6_000));
     assert_eq!(card.demand, [65_535; 4]);
     assert_eq!((card.love[1], card.memory[0], card.memory[0x10]), (8, 255, 10));
     assert_eq!(card.pending.kind, 0);
@@ -89,8 +89,8 @@ fn fitness_at_the_edges() {
     }
     for (value, fit) in [(65_535, true), (65_536, false), (u32::MAX, false)] {
         assert_eq!(changed(|card| card.demand[3] = value).is_fit(), fit);
-        assert_eq!(changed(|card| card.parameter[3][1] = value).is_fit(), fit);
-        assert_eq!(changed(|card| card.kept[3][1] = value).is_fit(), fit);
+        assert_eq!(changed(|card| card.parameter[1][3] = value).is_fit(), fit);
+        assert_eq!(changed(|card| card.kept[1][3] = value).is_fit(), fit);
     }
     let edges = [
         (999, false),
@@ -101,7 +101,7 @@ fn fitness_at_the_edges() {
     ];
     for (value, fit) in edges {
         assert_eq!(changed(|card| card.parameter[0][0] = value).is_fit(), fit);
-        assert_eq!(changed(|card| card.kept[3][0] = value).is_fit(), fit);
+        assert_eq!(changed(|card| card.kept[0][3] = value).is_fit(), fit);
     }
 }
 

@@ -39,7 +39,7 @@ fn what_is_written_is_read_and_nothing_else() {
         *value = 999_999 - place * 20_833;
     }
     card.saved[95] = -999_999;
-    card.kept = [[1_000, 65_535], [60_000_000, 0], [1_234_567, 7], [2_000, 9]];
+    card.kept = [[1_000, 60_000_000, 1_234_567, 2_000], [65_535, 0, 7, 9]];
     card.love = [-400, 870, 0, -1];
     let image = image_of(&card);
     let mut other = Card::new();

@@ -79,7 +79,17 @@ fn data_field_rules() {
     ] {
         assert_eq!(host(&mut card, &format!("32{data}")), (3, error("05")), "{data}");
     }
-    for data in ["0101", "0201", "0300", "0124", "FFFF", "ffff", "0101000000"] {
+    for data in [
+        "0101",
+        "0201",
+        "0300",
+        "0124",
+        "FFFF",
+        "ffff",
+        "0101000000",
+        "0201999900",
+        "020fA00000",
+    ] {
         assert_eq!(host(&mut card, &format!("32{data}")), (5, error("01")), "{data}");
     }
     for data in ["020000A500", "0200001501", "02000015F0", "02000015FE"] {

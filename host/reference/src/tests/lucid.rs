@@ -1,5 +1,5 @@
 use super::{call, hex};
-use crate::card::Card;
+use crate::card::{Card, Parameters};
 
 fn sent(card: &mut Card, frame: &str) -> (u8, Vec<u8>) {
     call(crate::lucid::lucid, card, &hex(frame))
@@ -46,9 +46,11 @@ fn source_parameters() {
     assert_eq!((card.parameter[0][0], card.kept[0][0]), (1_000, 750_000));
     assert_eq!(sent(&mut card, "A0 00 00 06 20 11 FF FF 00 00"), (0, hex("00 00")));
     assert_eq!(sent(&mut card, "A0 00 01 00"), (0, hex("00 00")));
-    assert_eq!((card.parameter[0], card.kept[0]), ([1_000_000, 0], [750_000, 0]));
+    let of_channel_0 = |table: Parameters| table.map(|parameter| parameter[0]);
+    assert_eq!(of_channel_0(card.parameter), [1_000_000, 0]);
+    assert_eq!(of_channel_0(card.kept), [750_000, 0]);
     assert_eq!(sent(&mut card, "A0 00 81 00"), (0, hex("00 00")));
-    assert_eq!(card.kept[0], [1_000_000, 0]);
+    assert_eq!(of_channel_0(card.kept), [1_000_000, 0]);
 }
 
 #[test]

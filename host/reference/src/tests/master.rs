@@ -9,7 +9,7 @@ type Seen = (u8, Says, Vec<u8>);
 fn stepped(master: &mut Master, request: &Request, answer: Option<&[u8]>) -> Seen {
     let mut frame = [0; 38];
     let step = step(master, request, answer, &mut frame);
-    (step.number as u8, step.says, frame[..step.length].to_vec())
+    (step.number as u8, master.says(), frame[..step.length].to_vec())
 }
 
 fn bytes(bytes: &[u8]) -> Request<'_> {
@@ -160,11 +160,87 @@ fn refusals_by_7_and_11() {
 
     let mut master = Master::new();
     let outcome = step(&mut master, &bytes(&[1]), None, &mut [0; 37]);
-    assert_eq!(
-        (outcome.number as u8, outcome.says, outcome.length),
-        (11, Says::Open, 0)
-    );
+    assert_eq!((outcome.number as u8, outcome.length), (11, 0));
     assert_eq!(master, Master::new());
     let outcome = step(&mut master, &bytes(&[0; 33]), None, &mut []);
     assert_eq!(outcome.number as u8, 7);
+}
+
+/// Requests for every number of bytes, and of bytes of bits.
+fn requests<'a>(masks: &'a [u8], states: &'a [u8]) -> impl Iterator<Item = Request<'a>> {
+    let of_bytes = (0..=32).map(|count| bytes(&masks[..count]));
+    of_bytes.chain((0..=16).map(|count| bits(&masks[..count], &states[..count])))
+}
+
+fn patterns() -> [[u8; 32]; 2] {
+    [(29, 7), (91, 130)].map(|(factor, first)| std::array::from_fn(|place| (place * factor + first) as u8))
+}
+
+#[test]
+fn every_length_is_done() {
+    let [masks, states] = patterns();
+    for request in requests(&masks, &states) {
+        let mut card = Card::new();
+        card.memory[0x10..0x40].fill(0x5A);
+        assert_eq!(lossless(&mut card, &request).1, Says::Done);
+        for (place, &byte) in card.memory[0x10..0x40].iter().enumerate() {
+            let new = match request.order {
+                Order::Bytes(bytes) => bytes.get(place).copied(),
+                Order::Bits { masks, states } => masks.get(place).map(|mask| 0x5A & mask | states[place]),
+            };
+            assert_eq!(byte, new.unwrap_or(0x5A));
+        }
+    }
+}
+
+/// The frame with its LRC made right.
+fn summed(mut frame: Vec<u8>) -> Vec<u8> {
+    frame.pop();
+    frame.push(frame[1..].iter().fold(0, |sum, byte| byte.wrapping_add(sum)));
+    frame
+}
+
+/// A bit of the echo's or the read-back's data differs, under a right LRC: unknown, but for a read-back's bit that the
+/// request leaves free.
+#[test]
+fn every_differing_bit() {
+    let [masks, states] = patterns();
+    for request in requests(&masks, &states) {
+        let frames = lossless(&mut Card::new(), &request).0;
+        let response = |frame: &[u8], data: &[u8]| summed([&[0x7E, 0x23], &frame[2..5], data, &[0]].concat());
+        let echo = response(&frames[0], &frames[0][5..frames[0].len() - 1]);
+        let asked: Vec<u8> = match request.order {
+            Order::Bytes(bytes) => bytes.to_vec(),
+            Order::Bits { masks, states } => masks
+                .iter()
+                .zip(states)
+                .map(|(mask, state)| 0x5A & mask | state)
+                .collect(),
+        };
+        let read = response(&frames[2], &asked);
+        for bit in 0..8 * (echo.len() - 6) {
+            let mut differing = echo.clone();
+            differing[5 + bit / 8] ^= 1 << (bit % 8);
+            let mut master = Master::new();
+            stepped(&mut master, &request, None);
+            assert_eq!(
+                stepped(&mut master, &request, Some(&summed(differing))).1,
+                Says::Unknown
+            );
+        }
+        for bit in 0..8 * asked.len() {
+            let mut differing = read.clone();
+            differing[5 + bit / 8] ^= 1 << (bit % 8);
+            let mut master = Master::new();
+            for answer in [None, Some(&echo[..]), None] {
+                assert_eq!(stepped(&mut master, &request, answer).1, Says::Open);
+            }
+            let is_free = match request.order {
+                Order::Bytes(_) => false,
+                Order::Bits { masks, states } => (masks[bit / 8] & !states[bit / 8]) >> (bit % 8) & 1 == 1,
+            };
+            let expected = if is_free { Says::Done } else { Says::Unknown };
+            assert_eq!(stepped(&mut master, &request, Some(&summed(differing))).1, expected);
+        }
+    }
 }

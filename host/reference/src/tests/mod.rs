@@ -1,8 +1,10 @@
 //! The checked examples and "Run:" cases of document 01 and the worked examples of its sources.
 
+mod blocks;
 mod card;
 mod console;
 mod datalink;
+mod figures;
 mod image;
 mod lecom;
 mod love;

@@ -8,7 +8,7 @@ governor-reading-requires : tie.Need-governor-reading-requires
 governor-reading-requires c κs = search needs
 
 tell-reading-requires : tie.Need-tell-reading-requires
-tell-reading-requires c κs = (rw (c .before .governor-reading .ensures) (governor-real _ _), search needs)
+tell-reading-requires c κs = (rw (c .before .governor-reading .ensures .case) (governor-real _ _), search needs)
 
 returns : tie.Need-returns
 returns c = search needs

@@ -1,0 +1,859 @@
+/* The checks of the small card in main.c: scripts of requests with the answers that the papers give them, the line master
+ * against the card, and every entry on unfit tables and short buffers.
+ *
+ * After every call the number, the length, the answer, the rest of the buffer and all three tables are compared. "01" is the
+ * scope paper with its checked examples P1 to P12; "001" to "004" are the makers' documents. No expected byte was taken from
+ * the library. It prints a line for each group and how many checks passed; at the first that fails it says which and exits
+ * with 1.
+ */
+#include <stdbool.h>
+
+/* The card as main.c has it: its tables, their set-up, its loop's body. */
+#define main example
+#include "main.c"
+#undef main
+
+enum { LOVE_PARAMETERS = 4 };
+
+/* Tables as they are lent to one call, of any length. */
+struct lent {
+    uint32_t *words;
+    size_t words_count;
+    uint8_t *memory;
+    size_t memory_count;
+    uint8_t *pending;
+    size_t pending_count;
+};
+
+#define LENT(t) (t)->words, (t)->words_count, (t)->memory, (t)->memory_count, (t)->pending, (t)->pending_count
+
+static struct lent lend(struct card *card)
+{
+    return (struct lent){TABLES(card)};
+}
+
+/* Room for any answer and for an image, with bytes after it that no call may touch. */
+enum { ROOM = NK_IMAGE + 27, PAINT = 0xA5 };
+
+struct answer {
+    uint8_t bytes[ROOM];
+    size_t len;
+};
+
+/* ---- Checks ---- */
+
+static unsigned checks;       /* all that held */
+static unsigned group_start;  /* how many held before the group */
+static const char *group;
+
+static void begin(const char *name)
+{
+    group = name;
+    group_start = checks;
+}
+
+static void end(void)
+{
+    printf("%-58s %4u checks\n", group, checks - group_start);
+}
+
+static void check(bool holds, const char *call, const char *what)
+{
+    if (!holds) {
+        fprintf(stderr, "FAILED: %s: %s: %s\n", group, call, what);
+        exit(EXIT_FAILURE);
+    }
+    checks++;
+}
+
+static void check_number(uint8_t number, uint8_t expected, const char *call)
+{
+    if (number != expected)
+        fprintf(stderr, "number %u instead of %u\n", number, expected);
+    check(number == expected, call, "number");
+}
+
+static void check_tables(const struct card *card, const struct card *expected, const char *call)
+{
+    check(memcmp(card->words, expected->words, sizeof card->words) == 0, call, "words");
+    check(memcmp(card->memory, expected->memory, sizeof card->memory) == 0, call, "memory");
+    check(memcmp(card->pending, expected->pending, sizeof card->pending) == 0, call, "pending");
+}
+
+static struct answer painted(void)
+{
+    struct answer answer = {.len = ROOM};
+    memset(answer.bytes, PAINT, sizeof answer.bytes);
+    return answer;
+}
+
+/* The answer has these bytes, and what stands after them in the buffer is as it was. */
+static void check_answer(const struct answer *answer, const uint8_t *expected, size_t count, const char *call)
+{
+    check(answer->len == count, call, "length");
+    if (count != 0 && memcmp(answer->bytes, expected, count) != 0) {
+        show("answer", answer->bytes, count);
+        show("should", expected, count);
+    }
+    check(count == 0 || memcmp(answer->bytes, expected, count) == 0, call, "answer");
+    bool kept = true;
+    for (size_t i = count; i < ROOM; i++)
+        kept = kept && answer->bytes[i] == PAINT;
+    check(kept, call, "buffer after the answer");
+}
+
+/* ---- Scripts ---- */
+
+enum table { WORDS, MEMORY, PENDING };
+
+/* An entry that a call changes, and what it becomes. */
+struct edit {
+    enum table table;
+    size_t place;
+    int32_t value;
+};
+
+enum { EDITS_MOST = 10 };
+
+/* A request and what the papers say of it. Tables change by the edits and in nothing else. */
+struct exchange {
+    const char *source;
+    const uint8_t *frame;
+    size_t frame_count;
+    uint8_t number;
+    const uint8_t *answer;
+    size_t answer_count;
+    struct edit edits[EDITS_MOST];
+    size_t edit_count;
+};
+
+#define SILENT NULL, 0
+#define EDITS(...) {__VA_ARGS__}, sizeof((const struct edit[]){__VA_ARGS__}) / sizeof(struct edit)
+#define KEEP {{0}}, 0
+#define COUNT(list) (sizeof(list) / sizeof *(list))
+
+static void edit_card(struct card *card, const struct edit *edits, size_t count)
+{
+    for (size_t i = 0; i < count; i++) {
+        switch (edits[i].table) {
+        case WORDS:
+            card->words[edits[i].place] = (uint32_t)edits[i].value;
+            break;
+        case MEMORY:
+            card->memory[edits[i].place] = (uint8_t)edits[i].value;
+            break;
+        case PENDING:
+            card->pending[edits[i].place] = (uint8_t)edits[i].value;
+            break;
+        }
+    }
+}
+
+/* A line's requests, one after the other on the same card. */
+static void run(struct card *card, enum dialect dialect, const struct exchange *script, size_t count)
+{
+    for (const struct exchange *e = script; e < script + count; e++) {
+        struct card expected = *card;
+        edit_card(&expected, e->edits, e->edit_count);
+        struct answer answer = painted();
+        uint8_t number = serve(card, dialect, e->frame, e->frame_count, answer.bytes, ROOM, &answer.len);
+        check_number(number, e->number, e->source);
+        check_answer(&answer, e->answer, e->answer_count, e->source);
+        check_tables(card, &expected, e->source);
+    }
+}
+
+/* Sets a probe's code, as firmware does when a probe sent one. */
+static void probe(struct card *card, uint32_t channel, uint8_t code)
+{
+    struct card expected = *card;
+    expected.memory[NK_CODES + channel] = code;
+    check_number(nk_set_code(TABLES(card), channel, code), NK_DONE, "set code");
+    check_tables(card, &expected, "set code");
+}
+
+/* ---- Probes and governor: 01, "What the card holds" ---- */
+
+static void check_governor(struct card *card, uint32_t channel, uint8_t number, float degrees)
+{
+    const float untouched = 1234.5f;
+    struct card expected = *card;
+    float given = untouched;
+    check_number(nk_governor(TABLES(card), channel, &given), number, "governor");
+    check(given == (number == NK_ANSWERED ? degrees : untouched), "governor", "degrees");
+    check_tables(card, &expected, "governor");
+}
+
+static void check_probes(struct card *card)
+{
+    begin("probes and governor (01)");
+    for (uint32_t channel = 0; channel < CHANNELS; channel++)
+        check_governor(card, channel, NK_PROBE_FAULT, 0); /* there are no degrees: *degrees stays */
+    for (unsigned code = 0; code < FAULT_CODE; code++) {
+        probe(card, 2, (uint8_t)code);
+        check_governor(card, 2, NK_ANSWERED, (float)code / 2 - 40);
+    }
+    probe(card, 2, FAULT_CODE);
+    check_governor(card, 2, NK_PROBE_FAULT, 0);
+    check_governor(card, CHANNELS, NK_RANGE_UNKNOWN, 0);
+    struct card expected = *card;
+    check_number(nk_set_code(TABLES(card), CHANNELS, 90), NK_RANGE_UNKNOWN, "set code of channel 4");
+    check_number(nk_set_code(TABLES(card), 256, 90), NK_RANGE_UNKNOWN, "set code of channel 256");
+    check_tables(card, &expected, "set code of no channel");
+    end();
+}
+
+/* ---- Datalink: 01 and 003; I.A. 3, probe codes 90, 78, 0 and 255 ---- */
+
+static const struct exchange datalink_script[] = {
+    {"01 P1, 003 example A", BYTES(0x7E, 0xE3, 0x09, 0x00, 0x10, 0xFC), NK_ANSWERED,
+     BYTES(0x7E, 0x23, 0x09, 0x00, 0x10, 90, 78, 0, 255, 0, 0, 0, 0, 0, 0xE3), KEEP},
+    {"01 P2", BYTES(0x7E, 0xE3, 0x09, 0x00, 0x10, 0xFB), NK_CHECK_CHARACTER, SILENT, KEEP},
+    {"01 P3, 003 example B", BYTES(0x7E, 0xA3, 0x02, 0x00, 0x10, 0x08, 0x0C, 0xC9), NK_READ_ONLY, SILENT, KEEP},
+    {"01: I.A. 4", BYTES(0x7E, 0xE4, 0x09, 0x00, 0x10, 0xFD), NK_FOREIGN_ADDRESS, SILENT, KEEP},
+    {"01: a response is no command", BYTES(0x7E, 0x23, 0x00, 0x00, 0x10, 0x33), NK_COMMAND_UNKNOWN, SILENT, KEEP},
+    {"01: first byte", BYTES(0x7F, 0xE3, 0x09, 0x00, 0x10, 0xFC), NK_FRAME_FORM, SILENT, KEEP},
+    {"01: shorter than two bytes", BYTES(0x7E), NK_FRAME_FORM, SILENT, KEEP},
+    {"01: an empty frame", NULL, 0, NK_FRAME_FORM, SILENT, KEEP},
+    {"01: nothing pending", BYTES(0x7E, 0x83), NK_NOTHING_PENDING, SILENT, KEEP},
+    {"01: change echoed, 003 example B at 1010h", BYTES(0x7E, 0xA3, 0x02, 0x10, 0x10, 0x08, 0x0C, 0xD9), NK_ANSWERED,
+     BYTES(0x7E, 0x23, 0x02, 0x10, 0x10, 0x08, 0x0C, 0x59),
+     EDITS({PENDING, 0, 1}, {PENDING, 1, 2}, {PENDING, 2, 0x10}, {PENDING, 3, 0x10}, {PENDING, 4, 0x08},
+           {PENDING, 5, 0x0C})},
+    {"01: nothing changes before the acknowledge", BYTES(0x7E, 0xE3, 0x02, 0x10, 0x10, 0x05), NK_ANSWERED,
+     BYTES(0x7E, 0x23, 0x02, 0x10, 0x10, 0x00, 0x00, 0x45), KEEP},
+    {"01: acknowledge", BYTES(0x7E, 0x83), NK_DONE, SILENT,
+     EDITS({MEMORY, 0x10, 0x08}, {MEMORY, 0x11, 0x0C}, {PENDING, NK_KIND, 0})},
+    {"01: applied once", BYTES(0x7E, 0x83), NK_NOTHING_PENDING, SILENT, KEEP},
+    {"01 P4: 5Ah at 1020h", BYTES(0x7E, 0xA3, 0x01, 0x20, 0x10, 0x5A, 0x2E), NK_ANSWERED,
+     BYTES(0x7E, 0x23, 0x01, 0x20, 0x10, 0x5A, 0xAE),
+     EDITS({PENDING, 0, 1}, {PENDING, 1, 1}, {PENDING, 2, 0x20}, {PENDING, 3, 0x10}, {PENDING, 4, 0x5A})},
+    {"01 P4: acknowledge", BYTES(0x7E, 0x83), NK_DONE, SILENT, EDITS({MEMORY, 0x20, 0x5A}, {PENDING, NK_KIND, 0})},
+    {"01 P4: mask F0h, state 01h", BYTES(0x7E, 0xC3, 0x02, 0x20, 0x10, 0xF0, 0x01, 0xE6), NK_ANSWERED,
+     BYTES(0x7E, 0x23, 0x02, 0x20, 0x10, 0xF0, 0x01, 0x46),
+     EDITS({PENDING, 0, 2}, {PENDING, 1, 2}, {PENDING, 2, 0x20}, {PENDING, 3, 0x10}, {PENDING, 4, 0xF0},
+           {PENDING, 5, 0x01})},
+    {"01 P4: 51h", BYTES(0x7E, 0x83), NK_DONE, SILENT, EDITS({MEMORY, 0x20, 0x51}, {PENDING, NK_KIND, 0})},
+    {"01 P5: mask 00h, state FFh", BYTES(0x7E, 0xC3, 0x02, 0x20, 0x10, 0x00, 0xFF, 0xF4), NK_ANSWERED,
+     BYTES(0x7E, 0x23, 0x02, 0x20, 0x10, 0x00, 0xFF, 0x54),
+     EDITS({PENDING, 0, 2}, {PENDING, 1, 2}, {PENDING, 2, 0x20}, {PENDING, 3, 0x10}, {PENDING, 4, 0x00},
+           {PENDING, 5, 0xFF})},
+    {"01 P5: FFh", BYTES(0x7E, 0x83), NK_DONE, SILENT, EDITS({MEMORY, 0x20, 0xFF}, {PENDING, NK_KIND, 0})},
+    {"01: NUM 32", BYTES(0x7E, 0xE3, 0x20, 0x00, 0x10, 0x13), NK_ANSWERED,
+     BYTES(0x7E, 0x23, 0x20, 0x00, 0x10, 90, 78, 0, 255, 0, 0, 0, 0, 0, 0, 0, 0, 0, 0, 0, 0, 0x08, 0x0C, 0, 0, 0, 0, 0,
+           0, 0, 0, 0, 0, 0, 0, 0, 0, 0x0E),
+     KEEP},
+    {"01: NUM 33", BYTES(0x7E, 0xE3, 0x21, 0x00, 0x10, 0x14), NK_FRAME_FORM, SILENT, KEEP},
+    {"01: 2000h with NUM 0", BYTES(0x7E, 0xE3, 0x00, 0x00, 0x20, 0x03), NK_ANSWERED,
+     BYTES(0x7E, 0x23, 0x00, 0x00, 0x20, 0x43), KEEP},
+    {"01: 2000h with NUM 1", BYTES(0x7E, 0xE3, 0x01, 0x00, 0x20, 0x04), NK_RANGE_UNKNOWN, SILENT, KEEP},
+};
+
+/* ---- LECOM: 01 and 001; unit 11, probe codes 90, 78, 0 and 255 ---- */
+
+enum { STX = 0x02, ETX = 0x03, EOT = 0x04, ENQ = 0x05, ACK = 0x06, NAK = 0x15 };
+
+static const struct exchange lecom_script[] = {
+    {"01 P6, 001 6.1.1", BYTES(EOT, '1', '1', STX, '0', '0', '0', '9', '8', '7', '3', ETX, 0x36), NK_ANSWERED,
+     BYTES(ACK), EDITS({WORDS, NK_BUFFER, 9873})},
+    {"01 P6: register 00 reads as before", BYTES(EOT, '1', '1', '0', '0', ENQ), NK_ANSWERED,
+     BYTES(STX, '0', '0', '0', ETX, 0x33), KEEP},
+    {"01 P7, 001 6.1.4", BYTES(EOT, '1', '1', STX, '6', '7', '1', ETX, 0x33), NK_ANSWERED, BYTES(ACK),
+     EDITS({WORDS, NK_OPERATIONAL, 9873})},
+    {"01 P7: register 00 reads 9873", BYTES(EOT, '1', '1', '0', '0', ENQ), NK_ANSWERED,
+     BYTES(STX, '0', '0', '9', '8', '7', '3', ETX, 0x06), KEEP},
+    {"01: \"!00\" reaches the same register", BYTES(EOT, '1', '1', '!', '0', '0', '0', '0', '0', '0', ENQ), NK_ANSWERED,
+     BYTES(STX, '!', '0', '0', '0', '0', '0', '0', '9', '8', '7', '3', ETX, 0x27), KEEP},
+    {"001 6.1.5: STORE", BYTES(EOT, '1', '1', STX, '6', '8', '1', ETX, 0x3C), NK_ANSWERED, BYTES(ACK),
+     EDITS({WORDS, NK_SAVED, 9873})},
+    {"001 3.3.1: unit 31", BYTES(EOT, '3', '1', '0', '3', ENQ), NK_FOREIGN_ADDRESS, SILENT, KEEP},
+    {"001 3.3.2: unknown code", BYTES(EOT, '1', '1', '!', '0', '8', '1', 'A', '0', '0', ENQ), NK_RANGE_UNKNOWN,
+     BYTES(STX, '!', '0', '8', '1', 'A', '0', '0', EOT), KEEP},
+    {"01: data 999999", BYTES(EOT, '1', '1', STX, '0', '1', '9', '9', '9', '9', '9', '9', ETX, 0x02), NK_ANSWERED,
+     BYTES(ACK), EDITS({WORDS, NK_BUFFER + 1, 999999})},
+    {"01: data -999999", BYTES(EOT, '1', '1', STX, '0', '1', '-', '9', '9', '9', '9', '9', '9', ETX, 0x2F), NK_ANSWERED,
+     BYTES(ACK), EDITS({WORDS, NK_BUFFER + 1, -999999})},
+    {"01: data 1000000", BYTES(EOT, '1', '1', STX, '0', '1', '1', '0', '0', '0', '0', '0', '0', ETX, 0x33),
+     NK_VALUE_OUTSIDE, BYTES(NAK), KEEP},
+    {"01: probe 1, code 78", BYTES(EOT, '1', '1', '6', '1', ENQ), NK_ANSWERED,
+     BYTES(STX, '6', '1', '-', '1', '0', ETX, 0x28), KEEP},
+    {"01: probe 3 at fault", BYTES(EOT, '1', '1', '6', '3', ENQ), NK_PROBE_FAULT, BYTES(NAK), KEEP},
+    {"01: probe written", BYTES(EOT, '1', '1', STX, '6', '0', '1', ETX, 0x34), NK_READ_ONLY, BYTES(NAK), KEEP},
+    {"01: BCC", BYTES(EOT, '1', '1', STX, '0', '0', '0', '9', '8', '7', '3', ETX, 0x37), NK_CHECK_CHARACTER, BYTES(NAK),
+     KEEP},
+    {"01: layout", BYTES(EOT, '1', '1', '0', 'a', ENQ), NK_FRAME_FORM, BYTES(NAK), KEEP},
+    {"01: first byte", BYTES(ENQ, '1', '1', '0', '0', ENQ), NK_FRAME_FORM, SILENT, KEEP},
+    {"01: address 00 sends nothing", BYTES(EOT, '0', '0', STX, '6', '7', '0', ETX, 0x32), NK_DONE, SILENT, KEEP},
+    {"01: address 10 sends nothing", BYTES(EOT, '1', '0', '0', '0', ENQ), NK_DONE, SILENT, KEEP},
+    {"01: no NAK to address 10", BYTES(EOT, '1', '0', '6', '3', ENQ), NK_PROBE_FAULT, SILENT, KEEP},
+};
+
+/* ---- Love: 01 and 004; address 32h, probe 0 with code 90 ---- */
+
+#define UNIT STX, 'L', '3', '2'
+
+static const struct exchange love_script[] = {
+    {"01 P8, 004: write -15 to SP1", BYTES(UNIT, '0', '2', '0', '0', '0', '0', '1', '5', 'F', 'F', '7', '9', ETX),
+     NK_ANSWERED, BYTES(UNIT, '0', '0', '1', '1', ACK), EDITS({WORDS, NK_LOVE, -15})},
+    {"004: read SP1", BYTES(UNIT, '0', '1', '0', '0', '2', '6', ETX), NK_ANSWERED,
+     BYTES(UNIT, '0', '1', '0', '0', '1', '5', 'D', '8', ACK), KEEP},
+    {"01 P10: 5.0 degrees", BYTES(UNIT, '0', '0', 'C', '5', ETX), NK_ANSWERED,
+     BYTES(UNIT, 'C', '0', '0', '0', '0', '0', '5', '0', '4', '9', ACK), KEEP},
+    {"004: checksum error", BYTES(UNIT, '0', '0', 'C', '6', ETX), NK_CHECK_CHARACTER, BYTES(UNIT, 'N', '0', '2', ACK),
+     KEEP},
+    {"004: illegal character", BYTES(UNIT, '0', 'G', 'D', 'C', ETX), NK_FRAME_FORM, BYTES(UNIT, 'N', '0', '4', ACK),
+     KEEP},
+    {"01: 00 with d = 3", BYTES(UNIT, '0', '0', '0', 'F', '5', ETX), NK_FRAME_FORM, BYTES(UNIT, 'N', '0', '5', ACK),
+     KEEP},
+    {"01: a command that is not built", BYTES(UNIT, '0', '1', '0', '6', '2', 'C', ETX), NK_COMMAND_UNKNOWN,
+     BYTES(UNIT, 'N', '0', '1', ACK), KEEP},
+    {"01: sign 01 in a write", BYTES(UNIT, '0', '2', '0', '0', '0', '0', '1', '5', '0', '1', '4', 'E', ETX),
+     NK_VALUE_OUTSIDE, BYTES(UNIT, 'N', '0', '5', ACK), KEEP},
+    {"01: 87.0 to ALHI", BYTES(UNIT, '0', '2', '0', '5', '0', '8', '7', '0', '0', '0', '5', 'B', ETX), NK_ANSWERED,
+     BYTES(UNIT, '0', '0', '1', '1', ACK), EDITS({WORDS, NK_LOVE + 3, 870})},
+    {"01: 87.1 to ALHI", BYTES(UNIT, '0', '2', '0', '5', '0', '8', '7', '1', '0', '0', '5', 'C', ETX), NK_VALUE_OUTSIDE,
+     BYTES(UNIT, 'N', '0', '6', ACK), KEEP},
+    {"01: address 33h", BYTES(STX, 'L', '3', '3', '0', '0', 'C', '6', ETX), NK_FOREIGN_ADDRESS, SILENT, KEEP},
+    {"01: filter of address 132h", BYTES(STX, 'O', '3', '2', '0', '0', 'C', '5', ETX), NK_FOREIGN_ADDRESS, SILENT, KEEP},
+    {"01: no ETX", BYTES(UNIT, '0', '0', 'C', '5', ACK), NK_FRAME_FORM, SILENT, KEEP},
+};
+
+static const struct exchange love_fault[] = {
+    {"01 P9: fault", BYTES(UNIT, '0', '0', 'C', '5', ETX), NK_ANSWERED,
+     BYTES(UNIT, 'D', '0', '0', '0', '0', '0', '0', '0', '4', '5', ACK), KEEP},
+};
+
+static const struct exchange love_cold[] = {
+    {"01: -1.0 degrees", BYTES(UNIT, '0', '0', 'C', '5', ETX), NK_ANSWERED,
+     BYTES(UNIT, 'C', '0', '0', '2', '0', '0', '1', '0', '4', '7', ACK), KEEP},
+};
+
+/* ---- LucidControl: 01 and 002; probe codes 78, 90, 0 and 255 ---- */
+
+static const struct exchange lucid_script[] = {
+    {"01 P11", BYTES(0x46, 0x00, 0x40, 0x00), NK_ANSWERED, BYTES(0x00, 0x02, 0xF6, 0xFF), KEEP},
+    {"01 P12, channel 3", BYTES(0x46, 0x03, 0x40, 0x00), NK_PROBE_FAULT, BYTES(0xD0, 0x00), KEEP},
+    {"01: hundredths", BYTES(0x46, 0x00, 0x41, 0x00), NK_ANSWERED, BYTES(0x00, 0x04, 0x9C, 0xFF, 0xFF, 0xFF), KEEP},
+    {"01: a group of probes", BYTES(0x48, 0x07, 0x40, 0x00), NK_ANSWERED,
+     BYTES(0x00, 0x06, 0xF6, 0xFF, 0x32, 0x00, 0x70, 0xFE), KEEP},
+    {"01: a failed probe refuses its group", BYTES(0x48, 0x0F, 0x40, 0x00), NK_PROBE_FAULT, BYTES(0xD0, 0x00), KEEP},
+    {"002 4.3.5: 750 ms, persistent", BYTES(0xA0, 0x00, 0x80, 0x06, 0x10, 0x11, 0xB0, 0x71, 0x0B, 0x00), NK_ANSWERED,
+     BYTES(0x00, 0x00), EDITS({WORDS, NK_PARAMETERS, 750000}, {WORDS, NK_KEPT, 750000})},
+    {"002 4.3.6: read it", BYTES(0xA2, 0x00, 0x00, 0x02, 0x10, 0x11), NK_ANSWERED,
+     BYTES(0x00, 0x04, 0xB0, 0x71, 0x0B, 0x00), KEEP},
+    {"01: option 01h", BYTES(0xA0, 0x00, 0x01, 0x00), NK_ANSWERED, BYTES(0x00, 0x00),
+     EDITS({WORDS, NK_PARAMETERS, DEFAULT_1110})},
+    {"01: a demand", BYTES(0x40, 0x01, 0x10, 0x02, 0x34, 0x12), NK_ANSWERED, BYTES(0x00, 0x00),
+     EDITS({WORDS, NK_DEMANDS + 1, 0x1234})},
+    {"01: the demand read", BYTES(0x46, 0x01, 0x10, 0x00), NK_ANSWERED, BYTES(0x00, 0x02, 0x34, 0x12), KEEP},
+    {"01: mask 0Fh", BYTES(0x42, 0x0F, 0x10, 0x08, 0x01, 0x00, 0x02, 0x00, 0x03, 0x00, 0x04, 0x80), NK_ANSWERED,
+     BYTES(0x00, 0x00),
+     EDITS({WORDS, NK_DEMANDS, 1}, {WORDS, NK_DEMANDS + 1, 2}, {WORDS, NK_DEMANDS + 2, 3},
+           {WORDS, NK_DEMANDS + 3, 0x8004})},
+    {"01: mask 09h read", BYTES(0x48, 0x09, 0x10, 0x00), NK_ANSWERED, BYTES(0x00, 0x04, 0x01, 0x00, 0x04, 0x80), KEEP},
+    {"01: mask 10h", BYTES(0x48, 0x10, 0x10, 0x00), NK_RANGE_UNKNOWN, BYTES(0xB2, 0x00), KEEP},
+    {"01: channel 4", BYTES(0x46, 0x04, 0x40, 0x00), NK_RANGE_UNKNOWN, BYTES(0xB8, 0x00), KEEP},
+    {"002 4.3.1: type 1Dh", BYTES(0x46, 0x03, 0x1D, 0x00), NK_VALUE_OUTSIDE, BYTES(0xB6, 0x00), KEEP},
+    {"01: probe written", BYTES(0x40, 0x00, 0x40, 0x02, 0x00, 0x00), NK_READ_ONLY, BYTES(0xB6, 0x00), KEEP},
+    {"01: option 02h", BYTES(0xA0, 0x00, 0x02, 0x00), NK_VALUE_OUTSIDE, BYTES(0xB4, 0x00), KEEP},
+    {"01: parameter 1130h", BYTES(0xA2, 0x00, 0x00, 0x02, 0x30, 0x11), NK_RANGE_UNKNOWN, BYTES(0xBA, 0x00), KEEP},
+    {"01: 65536 to 1120h", BYTES(0xA0, 0x00, 0x00, 0x06, 0x20, 0x11, 0x00, 0x00, 0x01, 0x00), NK_VALUE_OUTSIDE,
+     BYTES(0xC0, 0x00), KEEP},
+    {"01: LEN against slice", BYTES(0x46, 0x00, 0x40, 0x01), NK_FRAME_FORM, BYTES(0xB0, 0x00), KEEP},
+    {"01: LEN for the command", BYTES(0x46, 0x00, 0x40, 0x01, 0x00), NK_FRAME_FORM, BYTES(0xB0, 0x00), KEEP},
+    {"002 4.3.7: calibration is not built", BYTES(0x52, 0x00, 0x00, 0x00), NK_COMMAND_UNKNOWN, BYTES(0xA0, 0x00), KEEP},
+    {"002 4.3.8: identification is not built", BYTES(0xC0, 0x00, 0x00, 0x00), NK_COMMAND_UNKNOWN, BYTES(0xA0, 0x00),
+     KEEP},
+    {"01: shorter than four bytes", BYTES(0x46, 0x00, 0x40), NK_FRAME_FORM, SILENT, KEEP},
+};
+
+static void check_dialects(struct card *card)
+{
+    begin("Datalink (01, 003)");
+    probe(card, 0, 90);
+    probe(card, 1, 78);
+    probe(card, 2, 0);
+    run(card, DATALINK, datalink_script, COUNT(datalink_script));
+    end();
+
+    begin("LECOM (01, 001)");
+    run(card, LECOM, lecom_script, COUNT(lecom_script));
+    end();
+
+    begin("Love (01, 004)");
+    run(card, LOVE, love_script, COUNT(love_script));
+    probe(card, 0, FAULT_CODE);
+    run(card, LOVE, love_fault, COUNT(love_fault));
+    probe(card, 0, 78);
+    run(card, LOVE, love_cold, COUNT(love_cold));
+    end();
+
+    begin("LucidControl (01, 002)");
+    probe(card, 1, 90);
+    run(card, LUCID, lucid_script, COUNT(lucid_script));
+    end();
+}
+
+/* ---- The saved image and restart: 01 ---- */
+
+enum { REGISTER_BIAS = 999999, LOVE_BIAS = 400, LAST_BYTE_PADDING = 0x3F };
+
+struct bits {
+    uint8_t *image;
+    size_t place;
+};
+
+/* The next field, most significant bit first. */
+static void put_field(struct bits *bits, unsigned width, uint32_t value)
+{
+    for (unsigned i = width; i-- > 0; bits->place++)
+        if (value >> i & 1)
+            bits->image[bits->place / 8] |= (uint8_t)(0x80 >> bits->place % 8);
+}
+
+/* The image of a card, written from 01, "The saved image". */
+static void expected_image(const struct card *card, uint8_t image[NK_IMAGE])
+{
+    struct bits bits = {image, 0};
+    memset(image, 0, NK_IMAGE);
+    put_field(&bits, 5, card->words[NK_IA]);
+    put_field(&bits, 7, card->words[NK_LECOM_ADDRESS]);
+    put_field(&bits, 10, card->words[NK_LOVE_ADDRESS]);
+    for (size_t i = 0; i < NK_REGISTERS; i++)
+        put_field(&bits, 21, card->words[NK_SAVED + i] + REGISTER_BIAS);
+    for (size_t i = 0; i < 2 * CHANNELS; i++)
+        put_field(&bits, 32, card->words[NK_KEPT + i]);
+    for (size_t i = 0; i < LOVE_PARAMETERS; i++)
+        put_field(&bits, 11, card->words[NK_LOVE + i] + LOVE_BIAS);
+}
+
+static void write_image(struct card *card, struct answer *image, size_t room, uint8_t number)
+{
+    struct card expected = *card;
+    *image = painted();
+    check_number(nk_write_image(TABLES(card), image->bytes, room, &image->len), number, "write image");
+    check_tables(card, &expected, "write image");
+}
+
+/* Reads an image of `count` bytes; the card becomes as expected. */
+static void read_image(struct card *card, const uint8_t *image, size_t count, uint8_t number, const struct card *expected)
+{
+    check_number(nk_read_image(TABLES(card), image, count), number, "read image");
+    check_tables(card, expected, "read image");
+}
+
+/* What an image holds of `from`, taken over into `card`. */
+static void take_over(struct card *card, const struct card *from)
+{
+    memcpy(&card->words[NK_IA], &from->words[NK_IA], 3 * sizeof *card->words);
+    memcpy(&card->words[NK_LOVE], &from->words[NK_LOVE], LOVE_PARAMETERS * sizeof *card->words);
+    memcpy(&card->words[NK_KEPT], &from->words[NK_KEPT], 2 * CHANNELS * sizeof *card->words);
+    memcpy(&card->words[NK_SAVED], &from->words[NK_SAVED], NK_REGISTERS * sizeof *card->words);
+}
+
+static void check_image(struct card *card)
+{
+    begin("saved image, written and read back (01)");
+    /* I.A. 3, LECOM 11, Love 32h: 00011 0001011 0000110010, then 9873 + 999999 = F68D0h in 21 bits. */
+    const uint8_t front[] = {0x18, 0xB0, 0xC9, 0xED, 0x1A};
+    uint8_t expected[NK_IMAGE];
+    struct answer image;
+    expected_image(card, expected);
+    write_image(card, &image, NK_IMAGE - 1, NK_BUFFER_SHORT);
+    check_answer(&image, NULL, 0, "write image into 292 bytes");
+    write_image(card, &image, NK_IMAGE, NK_ANSWERED);
+    check_answer(&image, expected, NK_IMAGE, "write image");
+    check(memcmp(image.bytes, front, sizeof front) == 0, "write image", "addresses and register 00, packed by hand");
+
+    struct card other, same;
+    card_default(&other);
+    other.words[NK_IA] = 31;
+    other.words[NK_SAVED + 95] = (uint32_t)-999999;
+    same = other;
+    read_image(&other, image.bytes, NK_IMAGE - 1, NK_IMAGE_LENGTH, &same);
+    read_image(&other, image.bytes, NK_IMAGE + 1, NK_IMAGE_LENGTH, &same);
+    read_image(&other, NULL, 0, NK_IMAGE_LENGTH, &same);
+    for (uint8_t bit = 1; bit <= LAST_BYTE_PADDING; bit = (uint8_t)(bit * 2)) {
+        image.bytes[NK_IMAGE - 1] ^= bit;
+        read_image(&other, image.bytes, NK_IMAGE, NK_IMAGE_PADDING, &same);
+        image.bytes[NK_IMAGE - 1] ^= bit;
+    }
+    image.bytes[1] = 0x30; /* LECOM 3, below its range */
+    read_image(&other, image.bytes, NK_IMAGE, NK_CARD_UNFIT, &same);
+    image.bytes[1] = 0xB0;
+    take_over(&same, card);
+    read_image(&other, image.bytes, NK_IMAGE, NK_DONE, &same);
+    end();
+}
+
+static void check_restart(struct card *card)
+{
+    begin("restart (01)");
+    struct card expected = *card;
+    memcpy(&expected.words[NK_BUFFER], &card->words[NK_SAVED], NK_REGISTERS * sizeof *card->words);
+    memcpy(&expected.words[NK_OPERATIONAL], &card->words[NK_SAVED], NK_REGISTERS * sizeof *card->words);
+    memcpy(&expected.words[NK_PARAMETERS], &card->words[NK_KEPT], 2 * CHANNELS * sizeof *card->words);
+    for (size_t channel = 0; channel < CHANNELS; channel++) {
+        expected.words[NK_DEMANDS + channel] = FULL_DEMAND;
+        expected.memory[NK_CODES + channel] = FAULT_CODE;
+    }
+    expected.pending[NK_KIND] = 0;
+    check(memcmp(&expected, card, sizeof expected) != 0, "restart", "has something to do");
+    check_number(nk_restart(TABLES(card)), NK_DONE, "restart");
+    check_tables(card, &expected, "restart");
+    end();
+}
+
+/* ---- The line master: 01, "Datalink", second half. Its frames go to the card, the card's answers to its next step. ---- */
+
+/* What is asked of the unit at an I.A. */
+struct order {
+    uint8_t kind;
+    uint32_t ia;
+    uint32_t address;
+    const uint8_t *sent;
+    size_t sent_count;
+    const uint8_t *states;
+    size_t states_count;
+};
+
+/* A step and what 01 says of it: the answer that it gets, its number, its phase and its frame. */
+struct turn {
+    const char *source;
+    const uint8_t *answer;
+    size_t answer_count;
+    uint8_t number;
+    uint8_t phase;
+    const uint8_t *frame;
+    size_t frame_count;
+};
+
+static uint8_t step(const struct order *o, const struct turn *turn, uint8_t *phase, size_t room, struct answer *frame)
+{
+    return nk_step(phase, o->kind, o->ia, o->address, o->sent, o->sent_count, o->states, o->states_count, turn->answer,
+                   turn->answer_count, frame->bytes, room, &frame->len);
+}
+
+/* An exchange, step by step. Each frame reaches the card; its answer is what the next step gets, or is lost there. */
+static void exchange(struct card *card, const struct order *order, const struct turn *turns, size_t count)
+{
+    uint8_t phase = NK_NEW;
+    for (size_t i = 0; i < count; i++) {
+        struct answer frame = painted(), answer = painted();
+        check_number(step(order, &turns[i], &phase, ROOM, &frame), turns[i].number, turns[i].source);
+        check(phase == turns[i].phase, turns[i].source, "phase");
+        check_answer(&frame, turns[i].frame, turns[i].frame_count, turns[i].source);
+        if (frame.len != 0)
+            serve(card, DATALINK, frame.bytes, frame.len, answer.bytes, ROOM, &answer.len);
+        if (i + 1 < count && turns[i + 1].answer_count != 0)
+            check_answer(&answer, turns[i + 1].answer, turns[i + 1].answer_count, "the card's answer");
+    }
+}
+
+static const struct order bytes_order = {NK_BYTES, 3, 0x1010, BYTES(0x08, 0x0C), NULL, 0};
+static const struct order bits_order = {NK_BITS, 3, 0x1020, BYTES(0xF0), BYTES(0x01)};
+
+static const struct turn bytes_done[] = {
+    {"change, 003 example B at 1010h", NULL, 0, NK_ANSWERED, NK_CHANGING,
+     BYTES(0x7E, 0xA3, 0x02, 0x10, 0x10, 0x08, 0x0C, 0xD9)},
+    {"acknowledge on an exact echo", BYTES(0x7E, 0x23, 0x02, 0x10, 0x10, 0x08, 0x0C, 0x59), NK_ANSWERED,
+     NK_ACKNOWLEDGING, BYTES(0x7E, 0x83)},
+    {"interrogate", NULL, 0, NK_ANSWERED, NK_READING, BYTES(0x7E, 0xE3, 0x02, 0x10, 0x10, 0x05)},
+    {"done", BYTES(0x7E, 0x23, 0x02, 0x10, 0x10, 0x08, 0x0C, 0x59), NK_DONE, NK_ENDED_DONE, SILENT},
+    {"a step after the end", NULL, 0, NK_NOTHING_PENDING, NK_ENDED_DONE, SILENT},
+};
+
+static const struct turn bits_done[] = {
+    {"01 P4: change bits", NULL, 0, NK_ANSWERED, NK_CHANGING, BYTES(0x7E, 0xC3, 0x02, 0x20, 0x10, 0xF0, 0x01, 0xE6)},
+    {"01 P4: acknowledge", BYTES(0x7E, 0x23, 0x02, 0x20, 0x10, 0xF0, 0x01, 0x46), NK_ANSWERED, NK_ACKNOWLEDGING,
+     BYTES(0x7E, 0x83)},
+    {"01 P4: interrogate", NULL, 0, NK_ANSWERED, NK_READING, BYTES(0x7E, 0xE3, 0x01, 0x20, 0x10, 0x14)},
+    {"01 P4: 51h is done", BYTES(0x7E, 0x23, 0x01, 0x20, 0x10, 0x51, 0xA5), NK_DONE, NK_ENDED_DONE, SILENT},
+};
+
+static const struct turn echo_lost[] = {
+    {"change", NULL, 0, NK_ANSWERED, NK_CHANGING, BYTES(0x7E, 0xA3, 0x02, 0x10, 0x10, 0x08, 0x0C, 0xD9)},
+    {"no echo", NULL, 0, NK_DONE, NK_ENDED_UNKNOWN, SILENT},
+    {"a step after the end", NULL, 0, NK_NOTHING_PENDING, NK_ENDED_UNKNOWN, SILENT},
+};
+
+static const struct turn read_back_lost[] = {
+    {"change bits", NULL, 0, NK_ANSWERED, NK_CHANGING, BYTES(0x7E, 0xC3, 0x02, 0x20, 0x10, 0xF0, 0x01, 0xE6)},
+    {"acknowledge", BYTES(0x7E, 0x23, 0x02, 0x20, 0x10, 0xF0, 0x01, 0x46), NK_ANSWERED, NK_ACKNOWLEDGING,
+     BYTES(0x7E, 0x83)},
+    {"interrogate", NULL, 0, NK_ANSWERED, NK_READING, BYTES(0x7E, 0xE3, 0x01, 0x20, 0x10, 0x14)},
+    {"no read-back", NULL, 0, NK_DONE, NK_ENDED_UNKNOWN, SILENT},
+};
+
+/* A step that is refused moves no phase and touches no buffer. */
+static void check_step_refused(const struct order *order, size_t room, uint8_t number, const char *source)
+{
+    const struct turn turn = {source, NULL, 0, number, NK_NEW, SILENT};
+    struct answer frame = painted();
+    uint8_t phase = NK_NEW;
+    check_number(step(order, &turn, &phase, room, &frame), number, source);
+    check(phase == NK_NEW, source, "phase");
+    check_answer(&frame, NULL, 0, source);
+}
+
+static void check_master(void)
+{
+    static const uint8_t many[33];
+    const struct order ia_32 = {NK_BYTES, 32, 0x1010, many, 1, NULL, 0};
+    const struct order bytes_33 = {NK_BYTES, 3, 0x1010, many, 33, NULL, 0};
+    const struct order bits_17 = {NK_BITS, 3, 0x1010, many, 17, many, 17};
+    const struct order unpaired = {NK_BITS, 3, 0x1010, many, 2, many, 1};
+    const struct order address_65536 = {NK_BYTES, 3, 65536, NULL, 0, NULL, 0};
+    const struct order past_the_end = {NK_BYTES, 3, 65535, many, 2, NULL, 0};
+    struct card card;
+
+    begin("line master and card (01)");
+    card_default(&card);
+    card.memory[0x20] = 0x5A;
+    exchange(&card, &bytes_order, bytes_done, COUNT(bytes_done));
+    check(card.memory[0x10] == 0x08 && card.memory[0x11] == 0x0C, "done", "memory");
+    exchange(&card, &bits_order, bits_done, COUNT(bits_done));
+    check(card.memory[0x20] == 0x51, "done", "memory");
+    exchange(&card, &bytes_order, echo_lost, COUNT(echo_lost));
+    exchange(&card, &bits_order, read_back_lost, COUNT(read_back_lost));
+    check_step_refused(&ia_32, ROOM, NK_VALUE_OUTSIDE, "I.A. 32");
+    check_step_refused(&bytes_33, ROOM, NK_VALUE_OUTSIDE, "33 bytes");
+    check_step_refused(&bits_17, ROOM, NK_VALUE_OUTSIDE, "17 bytes of bits");
+    check_step_refused(&unpaired, ROOM, NK_VALUE_OUTSIDE, "two masks, one state");
+    check_step_refused(&address_65536, ROOM, NK_VALUE_OUTSIDE, "address 65536");
+    check_step_refused(&past_the_end, ROOM, NK_VALUE_OUTSIDE, "address plus bytes 65537");
+    check_step_refused(&bytes_order, NK_ROOM - 1, NK_BUFFER_SHORT, "a frame buffer of 37");
+    end();
+}
+
+/* ---- Every entry of the card: unfit tables and short buffers ---- */
+
+/* Calls that a fit card with a pending change carries out; all but two of them would change a table. */
+static const uint8_t acknowledge_frame[] = {0x7E, 0x83};
+static const uint8_t activate_frame[] = {EOT, '1', '1', STX, '6', '7', '1', ETX, 0x33};
+static const uint8_t write_frame[] = {UNIT, '0', '2', '0', '0', '0', '0', '1', '5', 'F', 'F', '7', '9', ETX};
+static const uint8_t demand_frame[] = {0x40, 0x01, 0x10, 0x02, 0x34, 0x12};
+static uint8_t image_of_another[NK_IMAGE];
+
+static uint8_t call_set_code(const struct lent *t, size_t room, struct answer *answer)
+{
+    (void)room;
+    answer->len = 0;
+    return nk_set_code(LENT(t), 0, 90);
+}
+
+static uint8_t call_restart(const struct lent *t, size_t room, struct answer *answer)
+{
+    (void)room;
+    answer->len = 0;
+    return nk_restart(LENT(t));
+}
+
+static uint8_t call_governor(const struct lent *t, size_t room, struct answer *answer)
+{
+    (void)room;
+    float degrees = -0.5f;
+    uint8_t number = nk_governor(LENT(t), 1, &degrees);
+    check((degrees == -0.5f) == (number != NK_ANSWERED), "nk_governor", "degrees only where they are answered");
+    answer->len = 0;
+    return number;
+}
+
+static uint8_t call_datalink(const struct lent *t, size_t room, struct answer *answer)
+{
+    return nk_datalink(LENT(t), acknowledge_frame, sizeof acknowledge_frame, answer->bytes, room, &answer->len);
+}
+
+static uint8_t call_lecom(const struct lent *t, size_t room, struct answer *answer)
+{
+    return nk_lecom(LENT(t), activate_frame, sizeof activate_frame, answer->bytes, room, &answer->len);
+}
+
+static uint8_t call_love(const struct lent *t, size_t room, struct answer *answer)
+{
+    return nk_love(LENT(t), write_frame, sizeof write_frame, answer->bytes, room, &answer->len);
+}
+
+static uint8_t call_lucid(const struct lent *t, size_t room, struct answer *answer)
+{
+    return nk_lucid(LENT(t), demand_frame, sizeof demand_frame, answer->bytes, room, &answer->len);
+}
+
+static uint8_t call_write_image(const struct lent *t, size_t room, struct answer *answer)
+{
+    return nk_write_image(LENT(t), answer->bytes, room, &answer->len);
+}
+
+static uint8_t call_read_image(const struct lent *t, size_t room, struct answer *answer)
+{
+    (void)room;
+    answer->len = 0;
+    return nk_read_image(LENT(t), image_of_another, NK_IMAGE);
+}
+
+static const struct entry {
+    const char *name;
+    uint8_t (*call)(const struct lent *t, size_t room, struct answer *answer);
+    uint8_t number;      /* on the fit card */
+    size_t room_least;   /* 0: the entry has no buffer */
+} entries[] = {
+    {"nk_set_code", call_set_code, NK_DONE, 0},
+    {"nk_restart", call_restart, NK_DONE, 0},
+    {"nk_governor", call_governor, NK_ANSWERED, 0},
+    {"nk_datalink", call_datalink, NK_DONE, NK_ROOM},
+    {"nk_lecom", call_lecom, NK_ANSWERED, NK_ROOM},
+    {"nk_love", call_love, NK_ANSWERED, NK_ROOM},
+    {"nk_lucid", call_lucid, NK_ANSWERED, NK_ROOM},
+    {"nk_write_image", call_write_image, NK_ANSWERED, NK_IMAGE},
+    {"nk_read_image", call_read_image, NK_DONE, 0},
+};
+
+/* A fit card on which each of these calls is carried out. */
+static void card_ready(struct card *card)
+{
+    const struct edit edits[] = {{MEMORY, NK_CODES + 1, 78},  {PENDING, NK_KIND, 1}, {PENDING, 1, 1}, {PENDING, 2, 0x20},
+                                 {PENDING, 3, 0x10},          {PENDING, 4, 0x5A},    {WORDS, NK_BUFFER, 9873}};
+    card_default(card);
+    card->words[NK_LOVE] = 870;
+    expected_image(card, image_of_another);
+    card->words[NK_LOVE] = 0;
+    edit_card(card, edits, COUNT(edits));
+}
+
+/* The call is refused with this number; it sends nothing and touches neither buffer nor tables. */
+static void check_refused(const struct entry *entry, struct card *card, const struct lent *tables, size_t room,
+                          uint8_t number)
+{
+    struct card expected = *card;
+    struct answer answer = painted();
+    check_number(entry->call(tables, room, &answer), number, entry->name);
+    check_answer(&answer, NULL, 0, entry->name);
+    check_tables(card, &expected, entry->name);
+}
+
+static void check_carried_out(void)
+{
+    begin("each call below on a fit card");
+    for (const struct entry *e = entries; e < entries + COUNT(entries); e++) {
+        struct card card;
+        card_ready(&card);
+        struct lent tables = lend(&card);
+        struct answer answer = painted();
+        check_number(e->call(&tables, ROOM, &answer), e->number, e->name);
+    }
+    end();
+}
+
+/* Tables with one element more than a card's. */
+struct roomy {
+    uint32_t words[NK_WORDS + 1];
+    uint8_t memory[NK_MEMORY + 1];
+    uint8_t pending[NK_PENDING + 1];
+};
+
+/* Zero, null with zero, one less and one more of one table's elements. */
+static void check_length(const struct entry *entry, enum table table)
+{
+    static struct roomy roomy, expected;
+    struct card card;
+    card_ready(&card);
+    memcpy(roomy.words, card.words, sizeof card.words);
+    memcpy(roomy.memory, card.memory, sizeof card.memory);
+    memcpy(roomy.pending, card.pending, sizeof card.pending);
+    memcpy(&expected, &roomy, sizeof roomy);
+    for (unsigned i = 0; i < 4; i++) {
+        struct lent tables = {TABLES(&roomy)};
+        size_t *count = table == WORDS ? &tables.words_count : table == MEMORY ? &tables.memory_count : &tables.pending_count;
+        const size_t counts[] = {0, 0, *count - 1, *count + 1};
+        *count = counts[i];
+        if (i == 1 && table == WORDS)
+            tables.words = NULL;
+        if (i == 1 && table == MEMORY)
+            tables.memory = NULL;
+        if (i == 1 && table == PENDING)
+            tables.pending = NULL;
+        struct answer answer = painted();
+        check_number(entry->call(&tables, ROOM, &answer), NK_CARD_UNFIT, entry->name);
+        check_answer(&answer, NULL, 0, entry->name);
+        check(memcmp(&roomy, &expected, sizeof roomy) == 0, entry->name, "tables");
+    }
+}
+
+static void check_lengths(void)
+{
+    begin("a table of 0, none, one less, one more: 12");
+    for (const struct entry *e = entries; e < entries + COUNT(entries); e++) {
+        check_length(e, WORDS);
+        check_length(e, MEMORY);
+        check_length(e, PENDING);
+    }
+    end();
+}
+
+/* One entry of each kind, outside its range. */
+static const struct edit unfit_edits[] = {
+    {WORDS, NK_IA, 32},
+    {WORDS, NK_LECOM_ADDRESS, 20},
+    {WORDS, NK_LOVE_ADDRESS, 0x100},
+    {WORDS, NK_LOVE + 3, 871},
+    {WORDS, NK_LOVE, -401},
+    {WORDS, NK_DEMANDS + 3, 65536},
+    {WORDS, NK_PARAMETERS, 999},
+    {WORDS, NK_PARAMETERS + 7, 65536},
+    {WORDS, NK_KEPT + 6, 60000001},
+    {WORDS, NK_BUFFER, 1000000},
+    {WORDS, NK_OPERATIONAL + 50, -1000000},
+    {WORDS, NK_SAVED + 95, INT32_MIN},
+    {PENDING, NK_KIND, 3},
+    {PENDING, 1, 33},
+    {PENDING, 2, 0x0F},
+};
+
+static void check_unfit_entries(void)
+{
+    begin("an entry outside its range: 12");
+    for (const struct entry *e = entries; e < entries + COUNT(entries); e++) {
+        for (size_t i = 0; i < COUNT(unfit_edits); i++) {
+            struct card card;
+            card_ready(&card);
+            edit_card(&card, &unfit_edits[i], 1);
+            struct lent tables = lend(&card);
+            check_refused(e, &card, &tables, ROOM, NK_CARD_UNFIT);
+        }
+    }
+    end();
+}
+
+static void check_rooms(void)
+{
+    begin("an answer buffer of 0 and of one byte too few: 11");
+    for (const struct entry *e = entries; e < entries + COUNT(entries); e++) {
+        if (e->room_least == 0)
+            continue;
+        struct card card;
+        card_ready(&card);
+        struct lent tables = lend(&card);
+        check_refused(e, &card, &tables, 0, NK_BUFFER_SHORT);
+        check_refused(e, &card, &tables, e->room_least - 1, NK_BUFFER_SHORT);
+        struct answer answer = painted();
+        check_number(e->call(&tables, e->room_least, &answer), e->number, e->name);
+    }
+    end();
+}
+
+int main(void)
+{
+    struct card card;
+    card_default(&card);
+    check_probes(&card);
+    check_dialects(&card);
+    check_image(&card);
+    check_restart(&card);
+    check_master();
+    check_carried_out();
+    check_lengths();
+    check_unfit_entries();
+    check_rooms();
+    printf("%u checks passed\n", checks);
+    return EXIT_SUCCESS;
+}
