@@ -16,7 +16,7 @@ use Rattle.wire.specs.Sum.{sumOf, byteValues}
 use Rattle.wire.proofs.Buffers.{overlay-set, part-append}
 use Rattle.card.specs.Layout.{dataMost}
 use Rattle.datalink.specs.Form.{start, framed, responseBits, changeBitsBits}
-use Rattle.datalink.specs.Frame.{secondPlace, dataPlace}
+use Rattle.datalink.specs.Form.{secondAt, frameDataAt}
 use Rattle.datalink.specs.Answer.{response}
 use Rattle.datalink.proofs.Writes.{framed-length}
 use Rattle.master.specs.Request.{Ask, Request, askOf, requestOf, namedBy, namedMost, paired, asAsked}
@@ -172,7 +172,7 @@ all-asked a read (suc k) f = rw (all-asked a read k (λ i h. f i (omega arith)),
 data-shown : (ia num address : ℕ) (d : List ℕ) → length d ≡ num → dataIn num (response ia (body num address d)) ≡ d
 unfolding response framed
 data-shown ia num address d e =
-    let n : dataPlace + num - dataPlace ≡ length d = omega arith in
+    let n : frameDataAt + num - frameDataAt ≡ length d = omega arith in
     ap (λ (j : ℕ). take j (d ++ (sumOf ((responseBits + ia) ∷ body num address d) ∷ []))) n ∙ take-append-seam d _
 
 pub shown-response : (q : Request) (read : List ℕ) → length read ≡ namedBy (q .ask) → shownIn q (response (q .ia) (body (namedBy (q .ask)) (q .address) read)) ≡ read
@@ -202,56 +202,56 @@ echo-shows q answer num e = rw e (echo-parts q answer)
 abbrev pub headOf : ℕ → ℕ → ℕ → List ℕ
 headOf ia num address = start ∷ (responseBits + ia) ∷ num ∷ address % byteValues ∷ address / byteValues ∷ []
 
-part-tail : (s : List ℕ) → part s secondPlace dataPlace ≡ drop secondPlace (take dataPlace s)
+part-tail : (s : List ℕ) → part s secondAt frameDataAt ≡ drop secondAt (take frameDataAt s)
 part-tail [] = refl
 part-tail (x ∷ s) = refl
 
 module _ (ia num address : ℕ) (answer : List ℕ) where
-  pub responds-long : responds ia num address answer ≡ true → length answer ≡ dataPlace + num + 1
+  pub responds-long : responds ia num address answer ≡ true → length answer ≡ frameDataAt + num + 1
   unfolding response
   responds-long e =
       let shown = dataIn num answer in
       let b = body num address shown in
       let l : length answer ≡ length (framed (responseBits + ia) b) = ap length (same-true answer (framed (responseBits + ia) b) e) in
       let f = framed-length (responseBits + ia) b in
-      let s = length-take (dataPlace + num - dataPlace) (drop dataPlace answer) in
-      let d = length-drop dataPlace answer in
+      let s = length-take (frameDataAt + num - frameDataAt) (drop frameDataAt answer) in
+      let d = length-drop frameDataAt answer in
       omega arith
 
-  pub other-length : (length answer ≡ dataPlace + num + 1 → ⊥) → false ≡ responds ia num address answer
+  pub other-length : (length answer ≡ frameDataAt + num + 1 → ⊥) → false ≡ responds ia num address answer
   other-length n = by (responds ia num address answer) refl
     where
       by : (t : Bool) → responds ia num address answer ≡ t → false ≡ t
       by true e = absurd (n (responds-long e))
       by false e = refl
 
-  module _ (long : length answer ≡ dataPlace + num + 1) where
+  module _ (long : length answer ≡ frameDataAt + num + 1) where
     responds-parts : responds ia num address answer
-        ≡ (same (take dataPlace answer) (headOf ia num address) && eqb (getD answer (dataPlace + num) 0) (sumOf ((responseBits + ia) ∷ body num address (dataIn num answer))))
+        ≡ (same (take frameDataAt answer) (headOf ia num address) && eqb (getD answer (frameDataAt + num) 0) (sumOf ((responseBits + ia) ∷ body num address (dataIn num answer))))
     unfolding response framed
     responds-parts =
-        let front = take dataPlace answer in
+        let front = take frameDataAt answer in
         let head = headOf ia num address in
         let shown = dataIn num answer in
-        let x = getD answer (dataPlace + num) 0 in
+        let x = getD answer (frameDataAt + num) 0 in
         let lrc = sumOf ((responseBits + ia) ∷ body num address shown) in
-        let n : dataPlace + num - dataPlace ≡ num = omega arith in
-        let most : take (dataPlace + num) answer ≡ front ++ shown = take-add dataPlace num answer ∙ ap (λ (j : ℕ). front ++ take j (drop dataPlace answer)) (sym n) in
+        let n : frameDataAt + num - frameDataAt ≡ num = omega arith in
+        let most : take (frameDataAt + num) answer ≡ front ++ shown = take-add frameDataAt num answer ∙ ap (λ (j : ℕ). front ++ take j (drop frameDataAt answer)) (sym n) in
         let whole : answer ≡ front ++ (shown ++ (x ∷ [])) =
-        sym (take-all (suc (dataPlace + num)) answer (omega arith)) ∙ take-suc answer (dataPlace + num) 0 (omega arith) ∙ ap (λ (l : List ℕ). l ++ (x ∷ [])) most ∙ append-assoc front shown (x ∷ []) in
+        sym (take-all (suc (frameDataAt + num)) answer (omega arith)) ∙ take-suc answer (frameDataAt + num) 0 (omega arith) ∙ ap (λ (l : List ℕ). l ++ (x ∷ [])) most ∙ append-assoc front shown (x ∷ []) in
         let rest : same (shown ++ (x ∷ [])) (shown ++ (lrc ∷ [])) ≡ eqb x lrc = same-append shown shown (x ∷ []) (lrc ∷ []) refl ∙ rw (same-self shown) (same-one x lrc) in
         ap (λ (l : List ℕ). same l (head ++ (shown ++ (lrc ∷ [])))) whole
-        ∙ same-append front head (shown ++ (x ∷ [])) (shown ++ (lrc ∷ [])) (length-take-le dataPlace answer (omega arith))
+        ∙ same-append front head (shown ++ (x ∷ [])) (shown ++ (lrc ∷ [])) (length-take-le frameDataAt answer (omega arith))
         ∙ ap (λ (t : Bool). same front head && t) rest
 
-    pub other-head : same (take dataPlace answer) (headOf ia num address) ≡ false → false ≡ responds ia num address answer
+    pub other-head : same (take frameDataAt answer) (headOf ia num address) ≡ false → false ≡ responds ia num address answer
     other-head h = sym (responds-parts ∙ rw h)
 
-    pub lrc-tells : (lrc : ℕ) → same (take dataPlace answer) (headOf ia num address) ≡ true → lrc ≡ sumOf (part answer secondPlace (dataPlace + num))
-        → eqb (getD answer (dataPlace + num) 0) lrc ≡ responds ia num address answer
+    pub lrc-tells : (lrc : ℕ) → same (take frameDataAt answer) (headOf ia num address) ≡ true → lrc ≡ sumOf (part answer secondAt (frameDataAt + num))
+        → eqb (getD answer (frameDataAt + num) 0) lrc ≡ responds ia num address answer
     lrc-tells lrc h e =
         let shown = dataIn num answer in
-        let front = part-tail answer ∙ ap (drop secondPlace) (same-true (take dataPlace answer) (headOf ia num address) h) in
-        let summed : part answer secondPlace (dataPlace + num) ≡ (responseBits + ia) ∷ body num address shown =
-        sym (part-append answer secondPlace dataPlace (dataPlace + num) (lit≤ tt) (omega arith)) ∙ ap (λ (l : List ℕ). l ++ shown) front in
+        let front = part-tail answer ∙ ap (drop secondAt) (same-true (take frameDataAt answer) (headOf ia num address) h) in
+        let summed : part answer secondAt (frameDataAt + num) ≡ (responseBits + ia) ∷ body num address shown =
+        sym (part-append answer secondAt frameDataAt (frameDataAt + num) (lit≤ tt) (omega arith)) ∙ ap (λ (l : List ℕ). l ++ shown) front in
         sym (responds-parts ∙ rw (h, e, summed))

@@ -7,7 +7,7 @@ use lib.ListN.{length, getD}
 use Rattle.wire.specs.Buffer.{part, same}
 use Rattle.wire.specs.Sum.{byteValues}
 use Rattle.datalink.specs.Form.{start, framed, interrogateBits, changeBitsBits, changeCommandBits, acknowledgeBits}
-use Rattle.datalink.specs.Frame.{dataPlace}
+use Rattle.datalink.specs.Form.{frameDataAt}
 use Rattle.datalink.specs.Answer.{response}
 use Rattle.master.specs.Request.{Ask, Request, namedBy, asAsked}
 use Rattle.master.specs.Request.Ask.{bytes, bits}
@@ -56,7 +56,7 @@ isEcho q answer = same answer (echo q)
 
 -- the data bytes of an answer with this NUM
 abbrev pub dataIn : ℕ → List ℕ → List ℕ
-dataIn num answer = part answer dataPlace (dataPlace + num)
+dataIn num answer = part answer frameDataAt (frameDataAt + num)
 
 -- a response with this I.A., NUM and address, whatever data it shows: its length and LRC are right
 abbrev pub responds : ℕ → ℕ → ℕ → List ℕ → Bool
