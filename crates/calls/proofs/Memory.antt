@@ -20,7 +20,6 @@ use Rattle.card.specs.Fitness.{fit}
 use Rattle.card.specs.Probe.{faultCode}
 use Rattle.card.specs.Reply.{Reply, silent, shell, guarded, roomLeast}
 use Rattle.card.specs.Entries.{dropped, faulted, restarted, restart, withCode, setCode}
-use Rattle.card.specs.Governor.{governorReply}
 use Rattle.datalink.specs.Frame.{asked}
 use Rattle.datalink.specs.Answer.{iaOf, interrogated, obeyed, datalinkReply}
 use Rattle.datalink.specs.declared.frame.Order.{Order}
@@ -126,7 +125,7 @@ mild-frame card Lucid room f calm = mild-shell roomLeast card room _ (mild-words
 
 -- a line for each entry
 pub mild : (card : Card) (c : Call) → (asksWrite card c ≡ true → refused (replyOf card c .number) ≡ true) → Mild card (replyOf card c .card)
-unfolding replyOf governorReply writeImage
+unfolding replyOf writeImage
 mild card (SetCode channel code) calm = mild-code card channel code
 mild card Restart calm = mild-restart card
 mild card (Governor channel) calm = mild-self card card refl

@@ -134,10 +134,6 @@ module _ (bytes out : List ℕ) {len : ℕ} {out′ : List ℕ} (w : Wrote bytes
 pub wrote-one : (x : ℕ) (out : List ℕ) → 0 < length out → Wrote (x ∷ []) out 1 (set out 0 x)
 wrote-one x out h = record { measured = refl; written = overlay-sets (x ∷ []) out h }
 
--- a reply over the words alone, known under another name
-pub words-as : {out : List ℕ} {number len : ℕ} {words out′ : List ℕ} (r q : WordsReply) → r ≡ q → GaveWords r out number len words out′ → GaveWords q out number len words out′
-words-as {out} {number} {len} {words} {out′} r q e = subst (λ (x : WordsReply). GaveWords x out number len words out′) e
-
 -- an answer that was sent, and these words left
 pub gave-leaving : (words : List ℕ) (answer : Answer) (out : List ℕ) {number len : ℕ} {out′ : List ℕ} → Told answer out number len out′ → GaveWords (leaving words answer) out number len words out′
 gave-leaving words answer out s = record { numbered = s .numbered; measured = s .wrote .measured; written = s .wrote .written; worded = refl }

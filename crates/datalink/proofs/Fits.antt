@@ -21,7 +21,8 @@ use Rattle.datalink.specs.Frame.{numIn, addressIn, asked}
 use Rattle.datalink.specs.Answer.{iaOf, interrogated, bodyOf, pended, echoed, changed, appliedTo, applied, acknowledged, obeyed, datalinkReply}
 use Rattle.datalink.specs.declared.frame.Order.{Order}
 use Rattle.datalink.specs.declared.frame.Order.the-variants.{Silent, Interrogate, Change, Acknowledge}
-use Rattle.datalink.proofs.Frames.{Sound, asked-sound}
+use Rattle.datalink.specs.Stages.{Sound}
+use Rattle.datalink.proofs.Frames.{asked-sound}
 
 -- a change keeps the length of memory
 pub length-changed : (kind a : ℕ) (sent : List ℕ) (k : ℕ) (memory : List ℕ) → length (changed kind a sent k memory) ≡ length memory

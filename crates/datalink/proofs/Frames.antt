@@ -2,7 +2,7 @@
 use mathlib.Core.Path.{_≡_, refl, ap, _∙_}
 use mathlib.Core.Bool.{Bool, true, false, not}
 use mathlib.Core.List.{List}
-use Prim.{Unit, tt}
+use Prim.{tt}
 use Prim.Native.Nat.{ℕ, _+_, _/_, _≤_, _<_}
 use native.Mathlib.Omega.{arith}
 use borrow.Author.Tests.{leb-true, eqb-true, eqb-false, ne-eqb}
@@ -16,9 +16,9 @@ use Rattle.card.specs.Layout.{kindAt, numAt, lowAddressAt, highAddressAt, dataM
 use Rattle.card.specs.Change.{noChange, change, changeBits, named, numRight, inMemory, namesReadOnly, addressOf, echoable, fitPending, memoryStart, memoryEnd}
 use Rattle.datalink.specs.Form.{bareSize, acknowledgeBits, changeCommandBits, changeBitsBits}
 use Rattle.datalink.specs.Frame.{commandIn, numIn, addressIn, isAcknowledge, kindOf, kindIn, namedIn, carried, formRight, rangeRight, changeAllowed, changeRight, ordered, silently, asked}
-use Rattle.datalink.specs.Stages.{orderIn, orderAt}
+use Rattle.datalink.specs.Stages.{orderIn, orderAt, Sound}
 use Rattle.datalink.specs.declared.frame.Order.{Order}
-use Rattle.datalink.specs.declared.frame.Order.the-variants.{Silent, Interrogate, Change, Acknowledge}
+use Rattle.datalink.specs.declared.frame.Order.the-variants.{Silent, Acknowledge}
 
 -- The form of a frame that is no Acknowledge
 
@@ -86,12 +86,6 @@ pending-named p e none =
     record { start = m .0; end = m .1; most = n .0; pairs = n .1 }
 
 -- What an order is known to name
-
-abbrev pub Sound : List ℕ → Order → Type 0
-Sound f (Silent number) = Unit {0}
-Sound f (Interrogate at n) = (bareSize ≤ length f) × ((memoryStart ≤ at) × ((at + n ≤ memoryEnd) × (n ≤ dataMost)))
-Sound f (Change kind num) = (length f ≡ bareSize + num) × ((num ≤ dataMost) × ((num ≡ numIn f) × (echoable kind num (addressIn f) (named kind num) ≡ true)))
-Sound f Acknowledge = Unit {0}
 
 kind-most : (command : ℕ) → leb (kindOf command) changeBits ≡ true
 unfolding kindOf

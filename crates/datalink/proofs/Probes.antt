@@ -26,7 +26,8 @@ use Rattle.datalink.specs.Frame.{addressIn, numIn, kindIn, isAcknowledge
 use Rattle.datalink.specs.Answer.{response, iaOf, shown, interrogated, echoed, applied, acknowledged, obeyed}
 use Rattle.datalink.specs.declared.frame.Order.{Order}
 use Rattle.datalink.specs.declared.frame.Order.the-variants.{Silent, Interrogate, Change, Acknowledge}
-use Rattle.datalink.proofs.Frames.{Sound, asked-sound}
+use Rattle.datalink.specs.Stages.{Sound}
+use Rattle.datalink.proofs.Frames.{asked-sound}
 
 -- an order to interrogate is of the frame's address and NUM
 abbrev Fields : List ℕ → Order → Type 0

@@ -1,13 +1,19 @@
--- The order of `asked` by stages, one for each function that judges.
-use Prim.Native.Nat.{ℕ}
+-- The order of `asked` by stages, one for each function that judges, and what is known of an order.
+use Prim.{Unit}
+use Prim.Native.Nat.{ℕ, _+_, _≤_}
+use mathlib.Core.Path.{_≡_}
+use mathlib.Core.Bool.{true}
 use mathlib.Core.List.{List}
 use lib.Dec.{eqb}
+use lib.ListN.{length}
 use Rattle.wire.specs.Choose.{choose}
 use Rattle.card.specs.Numbers.{frameForm, checkCharacter, commandUnknown, rangeUnknown, readOnly}
-use Rattle.card.specs.Change.{noChange, named, inMemory}
-use Rattle.datalink.specs.Frame.{silently, commandIn, commandKnown, formRight, lrcRight, rangeRight, changeAllowed, changeRight, ordered}
+use Rattle.card.specs.Layout.{dataMost}
+use Rattle.card.specs.Change.{noChange, named, inMemory, echoable, memoryStart, memoryEnd}
+use Rattle.datalink.specs.Form.{bareSize}
+use Rattle.datalink.specs.Frame.{silently, numIn, addressIn, commandIn, commandKnown, formRight, lrcRight, rangeRight, changeAllowed, changeRight, ordered}
 use Rattle.datalink.specs.declared.frame.Order.{Order}
-use Rattle.datalink.specs.declared.frame.Order.the-variants.{Interrogate, Change}
+use Rattle.datalink.specs.declared.frame.Order.the-variants.{Silent, Interrogate, Change, Acknowledge}
 
 -- a frame whose form and LRC are right
 unfoldable pub orderIn : List ℕ → Order
@@ -30,3 +36,9 @@ orderHere f =
     (silently (formRight f) frameForm
     (silently (lrcRight f) checkCharacter
     (orderIn f)))
+
+abbrev pub Sound : List ℕ → Order → Type 0
+Sound f (Silent number) = Unit {0}
+Sound f (Interrogate at n) = (bareSize ≤ length f) × ((memoryStart ≤ at) × ((at + n ≤ memoryEnd) × (n ≤ dataMost)))
+Sound f (Change kind num) = (length f ≡ bareSize + num) × ((num ≤ dataMost) × ((num ≡ numIn f) × (echoable kind num (addressIn f) (named kind num) ≡ true)))
+Sound f Acknowledge = Unit {0}

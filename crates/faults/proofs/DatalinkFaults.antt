@@ -14,7 +14,8 @@ use Rattle.datalink.specs.Form.{frameDataAt}
 use Rattle.datalink.specs.Answer.{iaOf, interrogated, obeyed, datalinkReply}
 use Rattle.datalink.specs.declared.frame.Order.{Order}
 use Rattle.datalink.specs.declared.frame.Order.the-variants.{Interrogate}
-use Rattle.datalink.proofs.Frames.{Sound, asked-sound}
+use Rattle.datalink.specs.Stages.{Sound}
+use Rattle.datalink.proofs.Frames.{asked-sound}
 use Rattle.datalink.proofs.Probes.{interrogate-fields, interrogate-shows, asked-other}
 use Rattle.faults.specs.Dialects.{DatalinkAsks, DatalinkFault, OtherBytes}
 use Rattle.faults.specs.NoTemperature.{Failed, DatalinkOwes}

@@ -19,8 +19,9 @@ use Rattle.card.specs.Reply.{Reply, SameAnswer, silent}
 use Rattle.card.specs.declared.probe.Reading.{Reading}
 use Rattle.card.specs.declared.probe.Reading.the-variants.{Temperature, Fault as Unread}
 use Rattle.card.specs.declared.governor.Governor.the-variants.{Fault, Refused}
-use Rattle.image.specs.Form.{imageSize}
-use Rattle.image.specs.Saved.{paddingOf, restored}
+use Rattle.image.specs.Form.{savedForm, imageSize}
+use Rattle.image.specs.Saved.{entriesOf, paddingOf}
+use Rattle.image.specs.Ranges.{entriesRight}
 use Rattle.image.specs.Entries.{unless, writeImage, readImage}
 use Rattle.faults.specs.NoTemperature.{asWritten, Failed, Says, ToldApart, GovernorOwes, Unasked, NoTemperature}
 use Rattle.faults.proofs.Codes.{failed-read, code-fit, code-other, warm-read, shell-same, guarded-same}
@@ -86,18 +87,14 @@ unfolding choose
 unless-same true n c d x y s = s
 unless-same false n c d x y s = record { number = refl; bytes = refl }
 
-restored-fit : (card : Card) (channel code : ℕ) (img : List ℕ) → fit (restored (withCode card channel code) img) ≡ fit (restored card img)
-unfolding restored withCode
-restored-fit card channel code img = code-fit (restored card img) channel code
-
 read-same : (img : List ℕ) → Unasked (λ card. readImage card img)
 unfolding readImage
 read-same img card channel code h =
-    rw (code-fit card channel code, restored-fit card channel code img)
+    rw (code-fit card channel code)
     (unless-same (fit card) cardUnfit _ _ _ _
     (unless-same (eqb (length img) imageSize) imageLength _ _ _ _
     (unless-same (eqb (paddingOf img) 0) imagePadding _ _ _ _
-    (unless-same (fit (restored card img)) cardUnfit _ _ _ _
+    (unless-same (entriesRight savedForm (entriesOf img)) cardUnfit _ _ _ _
     (record { number = refl; bytes = refl })))))
 
 pub no-temperature : NoTemperature asWritten

@@ -12,23 +12,24 @@ use borrow.Author.Tests.{leb-true, le-leb, lt-leb, lt-ltb, le-ltb, ne-eqb}
 use Rattle.wire.specs.Choose.{choose}
 use Rattle.wire.proofs.Cases.{cases, by-choice}
 use Rattle.wire.proofs.Tests.{and-true}
-use Rattle.figures.specs.Figure.{base, none, noByte, inRange, figureOf, charOf, allFigures, pairByte}
+use Rattle.wire.specs.Length.{between}
+use Rattle.figures.specs.Figure.{base, none, noByte, figureOf, charOf, allFigures, pairByte}
 
 -- a range's two bounds
-pub in-range : (lo hi b : ℕ) → inRange lo hi b ≡ true → (lo ≤ b) × (b ≤ hi)
-unfolding inRange
+pub in-range : (lo hi b : ℕ) → between lo hi b ≡ true → (lo ≤ b) × (b ≤ hi)
+unfolding between
 in-range lo hi b h =
     let t = and-true (leb lo b) (leb b hi) h in
     (leb-true lo b (t .0), leb-true b hi (t .1))
 
 -- within both bounds
-in-range-yes : (lo hi b : ℕ) → lo ≤ b → b ≤ hi → inRange lo hi b ≡ true
-unfolding inRange
+in-range-yes : (lo hi b : ℕ) → lo ≤ b → b ≤ hi → between lo hi b ≡ true
+unfolding between
 in-range-yes lo hi b l h = rw (le-leb lo b l, le-leb b hi h)
 
 -- above the upper bound
-in-range-above : (lo hi b : ℕ) → hi < b → inRange lo hi b ≡ false
-unfolding inRange
+in-range-above : (lo hi b : ℕ) → hi < b → between lo hi b ≡ false
+unfolding between
 in-range-above lo hi b h = rw (lt-leb b hi h) (and-false (leb lo b))
 
 -- a figure is at most the mark for none

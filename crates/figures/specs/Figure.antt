@@ -5,6 +5,7 @@ use mathlib.Core.Bool.{Bool, true, _&&_}
 use mathlib.Core.List.{List, [], _∷_}
 use lib.Dec.{leb, ltb}
 use Rattle.wire.specs.Choose.{choose}
+use Rattle.wire.specs.Length.{between}
 
 -- ASCII: the first and the last character of each row of figures
 abbrev pub zeroChar : ℕ
@@ -50,16 +51,12 @@ none = 32
 abbrev pub noByte : ℕ
 noByte = 256
 
--- whether b lies from lo to hi
-unfoldable pub inRange : ℕ → ℕ → ℕ → Bool
-inRange lo hi b = leb lo b && leb b hi
-
 -- what a received character means as a figure: 0 to 9, A to F as 10 to 15, a to f as `lower` more, any other `none`
 unfoldable pub figureOf : ℕ → ℕ
 figureOf b =
-    choose (inRange zeroChar nineChar b) (b - zeroChar)
-    (choose (inRange upperA upperF b) (decimal + (b - upperA))
-    (choose (inRange lowerA lowerF b) (lower + (decimal + (b - lowerA)))
+    choose (between zeroChar nineChar b) (b - zeroChar)
+    (choose (between upperA upperF b) (decimal + (b - upperA))
+    (choose (between lowerA lowerF b) (lower + (decimal + (b - lowerA)))
     none))
 
 -- the upper-case character of a figure's value

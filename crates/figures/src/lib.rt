@@ -4,7 +4,8 @@ ghost use Prim.Native.Nat.{_+_, _<_, _≤_};
 ghost use lib.ListN.{length};
 ghost use Rattle.wire.specs.Choose.{choose};
 ghost use Rattle.wire.specs.Buffer.{put};
-ghost use Rattle.figures.specs.Figure.{base, inRange, figureOf, charOf, allFigures, pairByte, pairOf};
+ghost use Rattle.wire.specs.Length.{between};
+ghost use Rattle.figures.specs.Figure.{base, figureOf, charOf, allFigures, pairByte, pairOf};
 ghost use Rattle.figures.specs.Decimal.{digits, sizeOf, valueOf, longestValue};
 ghost use Rattle.figures.specs.Signed.{isNegative, magnitude, withSign, longestText, textOf, figuresOf, parsedOf};
 
@@ -40,7 +41,7 @@ const MINUS: u8 = b'-';
 const HALF: u32 = u32::MAX / 2 + 1;
 
 fn in_range(lo: u8, hi: u8, b: u8) -> bool
-    ensures { λ r. ⌜ r ≡ inRange lo hi b ⌝ }
+    ensures { λ r. ⌜ r ≡ between lo hi b ⌝ }
 {
     (lo <= b) & (b <= hi)
 }

@@ -14,7 +14,8 @@ use Rattle.card.specs.Reply.{onWords, roomLeast}
 use Rattle.card.proofs.Facts.{fit-facts}
 use Rattle.card.proofs.Ranges.{at-register, set-fit}
 use Rattle.card.proofs.Fits.{IsFit, shell-fit, words-reply-fit, Good, good-registers}
-use Rattle.lecom.specs.Frame.{asked, Sound}
+use Rattle.lecom.specs.Frame.{asked}
+use Rattle.lecom.specs.Stages.{Sound}
 use Rattle.lecom.specs.Answer.{activated, stored, written, obeyed, addressOf, lecomReply}
 use Rattle.lecom.specs.declared.form.Named.{Named}
 use Rattle.lecom.specs.declared.form.Named.the-variants.{Register, Probe, Activate, Store, Nothing}

@@ -22,7 +22,8 @@ use Rattle.figures.proofs.Characters.{pair-at-most}
 use Rattle.card.specs.Numbers.{frameForm, checkCharacter, rangeUnknown, valueOutside, readOnly}
 use Rattle.card.specs.Fitness.{inSpan, registerMost}
 use Rattle.lecom.specs.Form.{lengthRight, standardHex, extendedHex, dataLeast, dataMost, closing, lastRegister, firstProbe, lastProbe, activate, store, namedBy}
-use Rattle.lecom.specs.Frame.{isWrite, codeAt, isExtended, hexAt, codeEnd, sizeRight, pairIn, xorFrom, codeNumber, subcodeRight, namedIn, dataOf, dataRead, valueIn, orderIn, asked, Has, Sound}
+use Rattle.lecom.specs.Frame.{isWrite, codeAt, isExtended, hexAt, codeEnd, sizeRight, pairIn, xorFrom, codeNumber, subcodeRight, namedIn, dataOf, dataRead, valueIn, orderIn, asked}
+use Rattle.lecom.specs.Stages.{Has, Sound}
 use Rattle.lecom.specs.Stages.{heard}
 use Rattle.lecom.specs.declared.frame.Order.{Order}
 use Rattle.lecom.specs.declared.frame.Order.the-variants.{Silent, Refused}

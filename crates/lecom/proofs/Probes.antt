@@ -11,7 +11,8 @@ use Rattle.card.specs.Reply.{onWords, shell, roomLeast, leaving}
 use Rattle.card.specs.declared.probe.Tenths.{Tenths}
 use Rattle.card.specs.declared.probe.Reading.the-variants.{Temperature, Fault}
 use Rattle.lecom.specs.Form.{stx, nak}
-use Rattle.lecom.specs.Frame.{collective, bccOf, asked, Sound}
+use Rattle.lecom.specs.Frame.{collective, bccOf, asked}
+use Rattle.lecom.specs.Stages.{Sound}
 use Rattle.lecom.specs.Answer.{valueBody, valueBytes, refusalBytes, quietly, doneBy, refusedBy, probeAnswer, readAnswer, obeyed, addressOf, lecomReply}
 use Rattle.lecom.specs.declared.form.Named.the-variants.{Register, Probe, Activate, Store, Nothing}
 use Rattle.lecom.specs.declared.frame.Order.{Order}

@@ -1,7 +1,5 @@
 -- What a LECOM frame asks. Document 01, "LECOM", with source document 001.
-use Prim.{Unit}
-use Prim.Native.Nat.{ℕ, _+_, _-_, _*_, _/_, _≤_, _<_}
-use mathlib.Core.Path.{_≡_}
+use Prim.Native.Nat.{ℕ, _+_, _-_, _*_, _/_}
 use mathlib.Core.Bool.{Bool, true, false, _&&_, _||_}
 use mathlib.Core.List.{List, [], _∷_}
 use lib.Bits.{bitXor}
@@ -10,17 +8,15 @@ use lib.ListN.{length, getD}
 use Rattle.wire.specs.Choose.{choose}
 use Rattle.wire.specs.Buffer.{part}
 use Rattle.wire.specs.Sum.{byteValues}
-use Rattle.wire.specs.Word.{minus}
 use Rattle.figures.specs.Figure.{decimal, upperHex, figureOf, allFigures, pairByte}
 use Rattle.figures.specs.Signed.{parsedOf}
 use Rattle.figures.specs.declared.Parsed.{Parsed}
 use Rattle.figures.specs.declared.Parsed.the-variants.{Value, Wrong}
 use Rattle.card.specs.Numbers.{foreignAddress, frameForm, checkCharacter, rangeUnknown, valueOutside, readOnly}
-use Rattle.card.specs.Layout.{registers, channels}
-use Rattle.card.specs.Fitness.{inSpan, registerMost}
+use Rattle.card.specs.Fitness.{registerMost}
 use Rattle.lecom.specs.Form.{lengthRight, stx, etx, eot, enq, extendedMark, tensAt, onesAt, startAt, standardHex, extendedHex, standardAt, subcodeAt, dataLeast, dataMost, closing, namedBy, known, writable, takes}
 use Rattle.lecom.specs.declared.form.Named.{Named}
-use Rattle.lecom.specs.declared.form.Named.the-variants.{Register, Probe, Activate, Store, Nothing}
+use Rattle.lecom.specs.declared.form.Named.the-variants.{Nothing}
 use Rattle.lecom.specs.declared.frame.Order.{Order}
 use Rattle.lecom.specs.declared.frame.Order.the-variants.{Silent, Refused, Read, Write}
 
@@ -166,19 +162,3 @@ asked address f =
     (unless (writeRight f) readOnly
     (unless (dataRight f) valueOutside
     (orderIn f)))))))))))
-
--- the card has what is named
-abbrev pub Has : Named → Type 0
-Has (Register k) = k < registers
-Has (Probe channel) = channel < channels
-Has Activate = Unit {0}
-Has Store = Unit {0}
-Has Nothing = Unit {0}
-
--- what is known of an order that a frame asks: the frame holds its code wherever the answer shows it, the card has what is named, and a
--- value to be stored is in the range of a register
-abbrev pub Sound : List ℕ → Order → Type 0
-Sound f (Silent number) = Unit {0}
-Sound f (Refused number) = number ≡ rangeUnknown → codeEnd f ≤ length f
-Sound f (Read named) = (codeEnd f ≤ length f) × Has named
-Sound f (Write named value) = Has named × (inSpan (minus registerMost) registerMost value ≡ true)

@@ -6,7 +6,7 @@ use native.Mathlib.Nat.{zero-add}
 use native.Mathlib.Numerals.{add-one}
 use native.Mathlib.Omega.{arith}
 use lib.ListN.{length, take, drop, set, getD, length-append, length-drop, length-take}
-use lib.Seq.{take-append-seam, take-append-le, drop-append-add, set-append-seam, take-nil, take-take, drop-drop, drop-cons, take-add, take-all, take-set-lt, drop-set-add, getD-take, getD-drop, sets, sets-eq, set-at, drop-at, length-take-le}
+use lib.Seq.{take-append-seam, take-append-le, drop-append-add, set-append-seam, take-nil, take-take, drop-drop, drop-cons, take-add, take-all, getD-take, getD-drop, sets, sets-eq, set-at, drop-at, length-take-le}
 use Rattle.wire.specs.Buffer.{put, overlay, part}
 
 pub overlay-none : (out : List ℕ) → overlay [] out ≡ out
@@ -136,7 +136,3 @@ module _ (d : List ℕ) (at : ℕ) (s : List ℕ) (fits : at + length s ≤ leng
   getD-put-after i h =
       let m : i + 0 ≡ i = omega arith in
       ap (λ (j : ℕ). getD (put d at s) j 0) (sym m) ∙ sym (getD-drop i (put d at s) 0 0) ∙ ap (λ (l : List ℕ). getD l 0 0) (drop-put i h) ∙ getD-drop i d 0 0 ∙ ap (λ (j : ℕ). getD d j 0) m
-
--- a part of which one element is stored
-pub part-set : (s : List ℕ) (a e k v : ℕ) → k < e - a → part (set s (a + k) v) a e ≡ set (part s a e) k v
-part-set s a e k v h = ap (take (e - a)) (drop-set-add a s k v) ∙ take-set-lt (e - a) (drop a s) k v h

@@ -1,16 +1,11 @@
 -- Laws of specs/Sum.antt. Assumes nothing.
 use mathlib.Core.Path.{_≡_}
-use mathlib.Core.List.{List, [], _∷_, _++_}
+use mathlib.Core.List.{List, [], _∷_}
 use Prim.Native.Nat.{ℕ, zero, suc, _+_, _<_}
 use native.Mathlib.Nat.{not-suc-le-zero, le-of-suc-le-suc}
 use native.Mathlib.Omega.{arith}
 use lib.ListN.{length, take, getD}
 use Rattle.wire.specs.Sum.{total}
-
-pub total-append : (a b : List ℕ) → total (a ++ b) ≡ total a + total b
-unfolding total
-total-append [] b = omega arith
-total-append (x ∷ a) b = omega (arith, total-append a b)
 
 -- one element more
 pub total-suc : (s : List ℕ) (i : ℕ) → i < length s → total (take (suc i) s) ≡ total (take i s) + getD s i 0

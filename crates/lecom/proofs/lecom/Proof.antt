@@ -4,7 +4,7 @@ use native.Mathlib.Omega.{arith}
 use Rattle.card.specs.Layout.{cardOf}
 use Rattle.card.proofs.Facts.{fit-facts}
 use Rattle.card.proofs.Replies.{early-none, shell-stopped, shell-passed, gave-words}
-use Rattle.lecom.specs.Frame.{Sound}
+use Rattle.lecom.specs.Stages.{Sound}
 use Rattle.lecom.specs.Answer.{addressOf, lecomReply}
 use Rattle.lecom.proofs.Frames.{asked-sound}
 use borrow.Author.Needs.{needs}

@@ -1,6 +1,5 @@
 -- `console::input::take` meets its contract. Assumes nothing.
 use Prim.Native.Nat.{_-_}
-use mathlib.Core.Path.{_≡_}
 use borrow.Author.Needs.{needs}
 use Rattle.console.proofs.input.take.Statement.{statement}
 use Rattle.console.proofs.input.take.Tie as tie

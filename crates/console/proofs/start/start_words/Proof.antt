@@ -1,7 +1,6 @@
 -- `console::start::start_words` meets its contract. Assumes nothing.
 use lib.ListN.{length-set}
 use native.Mathlib.Omega.{arith}
-use borrow.Author.Needs.{needs}
 use Rattle.console.proofs.start.start_words.Statement.{statement}
 use Rattle.console.proofs.start.start_words.Tie as tie
 

@@ -3,7 +3,8 @@ use mathlib.Core.Path.{refl, sym, _∙_, subst}
 use native.Mathlib.Omega.{arith}
 use Rattle.card.proofs.Replies.{gave-silent, gave-did, same-card}
 use Rattle.datalink.specs.Answer.{obeyed, interrogated, shown, echoed, pended, iaOf}
-use Rattle.datalink.proofs.Frames.{Sound, asked-sound}
+use Rattle.datalink.specs.Stages.{Sound}
+use Rattle.datalink.proofs.Frames.{asked-sound}
 use borrow.Author.Needs.{needs}
 use Rattle.datalink.proofs.answer.obey.Statement.{statement}
 use Rattle.datalink.proofs.answer.obey.Tie as tie

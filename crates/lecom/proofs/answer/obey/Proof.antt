@@ -1,7 +1,7 @@
 -- `lecom::answer::obey` meets its contract, order by order. Assumes nothing.
 use mathlib.Core.Path.{subst}
 use Rattle.card.proofs.Replies.{gave-leaving}
-use Rattle.lecom.specs.Frame.{Sound}
+use Rattle.lecom.specs.Stages.{Sound}
 use Rattle.lecom.specs.Answer.{obeyed}
 use Rattle.lecom.proofs.Writes.{gave-silent}
 use borrow.Author.Needs.{needs}

@@ -1,7 +1,7 @@
 -- `lecom::answer::read` meets its contract, by what is named. Assumes nothing.
 use mathlib.Core.Path.{subst}
 use native.Mathlib.Omega.{arith}
-use Rattle.lecom.specs.Frame.{Has}
+use Rattle.lecom.specs.Stages.{Has}
 use Rattle.lecom.specs.Answer.{readAnswer}
 use borrow.Author.Needs.{needs}
 use Rattle.lecom.proofs.answer.read.Statement.{statement}

@@ -4,7 +4,7 @@ use mathlib.Core.Logic.{inl}
 use native.Mathlib.Omega.{arith}
 use borrow.Author.Tests.{eq-eqb, ne-eqb}
 use Rattle.wire.proofs.Cases.{yes, no}
-use Rattle.lecom.specs.Frame.{Has}
+use Rattle.lecom.specs.Stages.{Has}
 use Rattle.lecom.specs.Answer.{activated, stored, written}
 use borrow.Author.Needs.{needs}
 use Rattle.lecom.proofs.answer.write.Statement.{statement}
