@@ -1,4 +1,4 @@
--- A byte that asking again would not change is a byte with every forced bit as asked; so asking twice is asking once. Assumes nothing.
+-- A byte that the same question would not change is a byte with every forced bit as asked; a byte once asked stays. Assumes nothing.
 use mathlib.Core.Path.{_≡_, refl, sym, ap, _∙_}
 use mathlib.Core.Logic.{_↔_, ⊎-elim}
 use mathlib.Core.Logic._⊎_.{inl, inr}
@@ -75,7 +75,7 @@ asked-forced masks states old x i =
     let s = getD states i 0 in
     (λ e b f. fixed-forced x m s e b f ∙ sym (forced-state b old m s f), λ g. forced-fixed x m s (λ b f. g b f ∙ forced-state b old m s f))
 
--- asking twice is asking once
+-- the same question changes nothing the second time
 pub asked-again : (a : Ask) (old i : ℕ) → asAsked a (asAsked a old i) i ≡ asAsked a old i
 unfolding asAsked
 asked-again (bytes sent) old i = refl
