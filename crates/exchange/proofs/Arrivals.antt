@@ -13,6 +13,7 @@ use lib.ListN.{length, getD, take}
 use lib.Seq.{take-append-seam}
 use Rattle.wire.specs.Choose.{choose}
 use Rattle.wire.specs.Buffer.{part}
+use Rattle.wire.specs.Length.{between}
 use Rattle.wire.specs.Sum.{sumOf}
 use Rattle.wire.proofs.Cases.{by-choice}
 use Rattle.card.specs.Numbers.{foreignAddress, nothingPending, bufferShort, cardUnfit, rangeUnknown, readOnly, frameForm}
@@ -22,7 +23,7 @@ use Rattle.card.specs.Fitness.{fit}
 use Rattle.card.specs.Reply.{Reply, silent, shell, roomLeast}
 use Rattle.datalink.specs.Form.{frameNumAt, frameDataAt}
 use Rattle.datalink.specs.Frame.{asked}
-use Rattle.datalink.specs.Form.{framed, lengthRight}
+use Rattle.datalink.specs.Form.{framed}
 use Rattle.datalink.specs.Answer.{response, iaOf, shown, bodyOf, pended, applied, echoed, interrogated, acknowledged, obeyed, datalinkReply}
 use Rattle.datalink.specs.declared.frame.Order.{Order}
 use Rattle.datalink.specs.declared.frame.Order.the-variants.{Silent, Interrogate, Change, Acknowledge}
@@ -67,7 +68,7 @@ by-shell P card room f unfit short p = by-choice P (fit card) _ _ (λ e. by-choi
 
 -- no frame at all
 pub none-arrives : (card : Card) (room : ℕ) → Turned card (datalinkReply card room [])
-unfolding asked lengthRight choose obeyed
+unfolding asked between choose obeyed
 none-arrives card room = by-shell (Turned card) card room [] (turned card cardUnfit (lit≤ tt)) (turned card bufferShort (lit≤ tt)) (λ _. turned card frameForm (lit≤ tt))
 
 -- a frame of the master's, of whose order what follows is known

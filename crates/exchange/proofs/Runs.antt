@@ -172,11 +172,11 @@ unfolding run
 images-run = refl
 
 first-image : next echoHeard (imageRead 4) ≡ regained 4 echoHeard
-unfolding computed
+unfolding computed allIn
 first-image = image-call 4 echoHeard refl refl refl
 
 second-image : next foreign (imageRead 3) ≡ regained 3 foreign
-unfolding computed fieldOf wordOf values replaced entries savedForm
+unfolding computed allIn fieldOf wordOf values replaced entries savedForm
 second-image = image-call 3 foreign refl refl refl
 
 images-read : run asWritten two (begin asWritten fresh) imagesRead ≡ toTheEnd (regained 3 foreign)

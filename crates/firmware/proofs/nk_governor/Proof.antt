@@ -21,7 +21,7 @@ unfolding valuesIn choose
 values-kept {card} {channel} before g = rw (g .case) (governor-cases (Kept before) card channel (λ _. refl) refl refl refl)
 
 handed : {card card′ : Card} {channel : ℕ} {told : Governor} {before after : Float} {number : ℕ} → GovernorTold card channel told card′
-    → (number ≡ numberOf told) × (after ≡ degreesIn told before) → HandedReading card channel before number after card′
+    → (number ≡ numberOf told) × (after ≡ degreesIn told before) → HandedReading card channel before number card′ after
 handed {before = before} g t =
     record {
       numbered = t .0 ∙ g .numbered;
