@@ -1,3 +1,4 @@
+pub mod Spans
 pub mod Scans
 pub mod Ranges
 pub mod Facts

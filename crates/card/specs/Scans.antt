@@ -1,9 +1,18 @@
 -- The test of words by runs of one range, for the functions that scan them. proofs/Ranges.antt holds it to specs/Fitness.antt.
-use Prim.Native.Nat.{ℕ}
+use Prim.Native.Nat.{ℕ, _+_, _%_}
 use mathlib.Core.Bool.{Bool, true, _&&_}
 use mathlib.Core.List.{List, [], _∷_}
-use lib.Dec.{leb}
+use lib.Dec.{leb, ltb}
+use Rattle.wire.specs.Word.{wordValues}
 use Rattle.card.specs.Fitness.{inSpan, cycleLeast, cycleMost, floorMost, iaMost, lecomRight, loveRight}
+
+-- half the values of a word
+abbrev pub half : ℕ
+half = 0x80000000
+
+-- a word, counted from the word −base, lies beyond most; both are shifted by half the values of a word
+abbrev pub isBeyond : ℕ → ℕ → ℕ → Bool
+isBeyond base most x = ltb ((most + half) % wordValues) (((x + base) % wordValues + half) % wordValues)
 
 -- every word of a list lies from lo to hi
 unfoldable pub allIn : ℕ → ℕ → List ℕ → Bool

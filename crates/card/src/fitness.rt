@@ -12,13 +12,15 @@ use crate::layout::PARAMETERS_EACH;
 use crate::layout::PENDING;
 use crate::layout::REGISTERS;
 use crate::layout::WORDS;
+use std::num::wrapping_add_u32;
+use std::num::wrapping_sub_u32;
 ghost use mathlib.Core.Path.{_≡_};
 ghost use Prim.Native.Nat.{_*_};
 ghost use lib.ListN.{length};
 ghost use Rattle.wire.specs.Word.{minus};
 ghost use Rattle.card.specs.Layout.{cardOf, parameterCount, registers, wordCount};
 ghost use Rattle.card.specs.Fitness.{inSpan, inRange, lecomRight, loveRight, registerMost, fitWords, fit};
-ghost use Rattle.card.specs.Scans.{allIn, fitAddresses, fitParameters};
+ghost use Rattle.card.specs.Scans.{isBeyond, allIn, fitAddresses, fitParameters};
 
 // Addresses. A LECOM address has two decimal figures, neither of them zero; the low two hex figures of a Love address are not 00.
 pub const IA_MOST: u32 = 31;
@@ -56,6 +58,9 @@ pub const REGISTER_MOST: u32 = 999_999;
 
 pub const REGISTER_LEAST: u32 = u32::MAX - REGISTER_MOST + 1;
 
+// Half the values of a word.
+const HALF: u32 = 0x8000_0000;
+
 // Whether x lies from lo to hi.
 pub fn in_span(x: u32, lo: u32, hi: u32) -> bool
     ensures { λ r. ⌜ r ≡ inSpan lo hi x ⌝ }
@@ -66,18 +71,28 @@ pub fn in_span(x: u32, lo: u32, hi: u32) -> bool
     (lo <= x) | (x <= hi)
 }
 
-// Whether every word of s does. No early exit: so the loop runs on several words at once.
+// Whether a word is beyond `most`, both counted from the word −base and shifted by HALF: machines compare signed words faster.
+fn is_beyond(x: u32, base: u32, most: u32) -> bool
+    ensures { λ r. ⌜ r ≡ isBeyond base most x ⌝ }
+{
+    let shifted = wrapping_add_u32(x, base);
+    wrapping_add_u32(most, HALF) < wrapping_add_u32(shifted, HALF)
+}
+
+// Whether every word of s lies from lo to hi. No early exit: so the loop runs on several words at once.
 pub fn all_in(s: &[u32], lo: u32, hi: u32) -> bool
     ensures { λ r. ⌜ r ≡ allIn lo hi (now (s .entry)) ⌝ }
 {
-    let mut ok = true;
+    let base = wrapping_sub_u32(HALF, lo);
+    let most = wrapping_add_u32(wrapping_sub_u32(hi, lo), HALF);
+    let mut bad = false;
     let mut i = 0;
     while i < s.len() {
-        let here = in_span(s[i], lo, hi);
-        ok = ok & here;
+        let here = is_beyond(s[i], base, most);
+        bad = bad | here;
         i += 1;
     }
-    ok
+    !bad
 }
 
 // Whether a LECOM address is in its range.

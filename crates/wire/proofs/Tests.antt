@@ -1,6 +1,6 @@
--- Tests joined by "and" and "or". Assumes nothing.
+-- Tests joined by "and", "or" and "not". Assumes nothing.
 use mathlib.Core.Path.{_≡_, refl, sym}
-use mathlib.Core.Bool.{Bool, true, false, _&&_, _||_}
+use mathlib.Core.Bool.{Bool, true, false, _&&_, _||_, not}
 
 pub and-true : (a b : Bool) → (a && b) ≡ true → (a ≡ true) × (b ≡ true)
 and-true true b h = (refl, h)
@@ -24,6 +24,10 @@ and-false-right false = refl
 pub or-true-right : (t : Bool) → (t || true) ≡ true
 or-true-right true = refl
 or-true-right false = refl
+
+pub not-or : (a b : Bool) → not (a || b) ≡ (not a && not b)
+not-or true b = refl
+not-or false b = refl
 
 -- two tests, each of which gives the other, are one
 pub same-test : (a b : Bool) → (a ≡ true → b ≡ true) → (b ≡ true → a ≡ true) → a ≡ b
