@@ -1,11 +1,11 @@
--- `console::reply::read_line` meets its contract. Assumes nothing.
+-- `console::question::read_line` meets its contract. Assumes nothing.
 use mathlib.Core.Path.{sym}
 use native.Mathlib.Omega.{arith}
 use lib.Seq.{length-take-le}
 use borrow.Table.Elements.{take-le}
 use borrow.Author.Needs.{needs}
-use Rattle.console.proofs.reply.read_line.Statement.{statement}
-use Rattle.console.proofs.reply.read_line.Tie as tie
+use Rattle.console.proofs.question.read_line.Statement.{statement}
+use Rattle.console.proofs.question.read_line.Tie as tie
 
 no-call-requires : tie.Need-no-call-requires
 no-call-requires c κs = search needs
