@@ -11,6 +11,7 @@ use master::Phase;
 use master::StepOutcome;
 use master::Verdict;
 use master::request::Kind;
+use master::request::Request;
 ghost use Prim.Native.Nat.{_+_, _≤_};
 ghost use lib.ListN.{length, take};
 ghost use Rattle.lines.specs.Lent.{lineMost, answerMost, roomMost};
@@ -196,18 +197,14 @@ fn go(e: Exchange, sent: &[u8], states: &[u8], heard: &[u8], frame: &mut [u8]) -
 {
     let phase = e.phase;
     let kind = e.kind;
+    let request = Request {
+        kind,
+        ia: e.ia,
+        address: e.address,
+    };
     let n = e.sent;
     let m = e.states;
-    master::step(
-        phase,
-        kind,
-        e.ia,
-        e.address,
-        &sent[..n],
-        &states[..m],
-        heard,
-        frame,
-    )
+    master::step(phase, request, &sent[..n], &states[..m], heard, frame)
 }
 
 // The exchange when it has come to a phase.

@@ -47,7 +47,7 @@ order-other f a = rw (ne-eqb (commandIn f) acknowledgeBits a)
 
 -- A change that may be echoed
 
-pub memory-facts : (at n : ℕ) → inMemory at n ≡ true → (memoryStart ≤ at) × (at + n ≤ memoryEnd)
+memory-facts : (at n : ℕ) → inMemory at n ≡ true → (memoryStart ≤ at) × (at + n ≤ memoryEnd)
 unfolding inMemory
 memory-facts at n e =
     let p = and-true (leb memoryStart at) (leb (at + n) memoryEnd) e in

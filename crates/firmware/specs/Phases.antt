@@ -3,7 +3,7 @@ use Prim.Native.Nat.{ℕ}
 use mathlib.Core.List.{List}
 use lib.Dec.{eqb, ltb}
 use Rattle.wire.specs.Choose.{choose}
-use Rattle.master.specs.Request.{Request}
+use Rattle.master.specs.Request.{Request, requestOf}
 use Rattle.master.specs.Step.{Move, stepOf}
 use Rattle.master.specs.declared.Phase.{Phase}
 use Rattle.master.specs.declared.Phase.the-variants.{New, Changing, Acknowledging, Reading, EndedDone, EndedUnknown}
@@ -46,6 +46,10 @@ kindCodeOf Bits = 1
 -- the kind of a number: 0 asks for bytes, any other number for bits
 unfoldable pub kindOf : ℕ → Kind
 kindOf code = choose (eqb code (kindCodeOf Bytes)) Bytes Bits
+
+-- a request as C passes it: its kind is a number
+abbrev pub requestInC : ℕ → ℕ → ℕ → List ℕ → List ℕ → Request
+requestInC kind ia address sent states = requestOf (record { kind = kindOf kind; ia = ia; address = address }) sent states
 
 -- the step as C sees it: the master's state is the number of its phase
 unfoldable pub stepInC : Request → ℕ → List ℕ → ℕ → Move ℕ

@@ -5,6 +5,7 @@ use card::numbers::ANSWERED;
 use card::numbers::PROBE_FAULT;
 use master::Phase;
 use master::request::Kind;
+use master::request::Request;
 ghost use mathlib.Core.Path.{_≡_};
 ghost use lib.ListN.{length};
 ghost use Rattle.card.specs.Layout.{cardOf};
@@ -16,10 +17,9 @@ ghost use Rattle.lecom.specs.Answer.{lecomReply};
 ghost use Rattle.love.specs.Answer.{loveReply};
 ghost use Rattle.lucid.specs.Answer.{lucidReply};
 ghost use Rattle.image.specs.Entries.{writeImage, readImage};
-ghost use Rattle.master.specs.Request.{requestOf};
 ghost use Rattle.master.specs.Step.{Stepped};
 ghost use Rattle.firmware.specs.Lent.{Handed, degreesIn, HandedReading};
-ghost use Rattle.firmware.specs.Phases.{codeOf, phaseOf, kindOf, stepInC};
+ghost use Rattle.firmware.specs.Phases.{codeOf, phaseOf, kindOf, requestInC, stepInC};
 
 #[no_mangle]
 pub extern "C" fn nk_set_code(
@@ -262,18 +262,17 @@ pub extern "C" fn nk_step(
     frame: &mut [u8],
     len: &mut usize,
 ) -> u8
-    ensures { λ r. ⌜ Stepped (stepInC (requestOf (kindOf kind) ia address (now (sent .entry)) (now (states .entry))) (now (phase .entry)) (now (answer .entry)) (length (now (frame .entry)))) (now (frame .entry)) r (now (len .exit)) (now (phase .exit)) (now (frame .exit)) ⌝ }
+    ensures { λ r.
+        let q = requestInC kind ia address (now (sent .entry)) (now (states .entry)) in
+        let before = now (frame .entry) in
+        ⌜ Stepped (stepInC q (now (phase .entry)) (now (answer .entry)) (length before)) before r (now (len .exit)) (now (phase .exit)) (now (frame .exit)) ⌝ }
 {
-    let went = master::step(
-        phase_of(*phase),
-        kind_of(kind),
+    let request = Request {
+        kind: kind_of(kind),
         ia,
         address,
-        sent,
-        states,
-        answer,
-        frame,
-    );
+    };
+    let went = master::step(phase_of(*phase), request, sent, states, answer, frame);
     let next = went.phase;
     *phase = code_of(next);
     *len = went.len;

@@ -1,7 +1,7 @@
 -- The form of a LECOM frame: its lengths, characters, places and sizes, and what a code names. Document 01, "LECOM", with source document 001.
 -- Read: EOT, two figures, code, ENQ. Write: EOT, two figures, STX, code, 1 to 12 data characters, ETX, BCC.
 use Prim.Native.Nat.{ℕ, _-_}
-use mathlib.Core.Bool.{Bool, true, false, _&&_, _||_, not}
+use mathlib.Core.Bool.{Bool, true, false, _&&_, _||_}
 use lib.Dec.{leb, eqb}
 use Rattle.wire.specs.Choose.{choose}
 use Rattle.wire.specs.Length.{between}
@@ -119,14 +119,13 @@ writable Activate = true
 writable Store = true
 writable Nothing = false
 
--- ACTIVATE and STORE
-abbrev pub command : Named → Bool
-command (Register k) = false
-command (Probe channel) = false
-command Activate = true
-command Store = true
-command Nothing = false
+-- "67h and 68h take a data value of 0 or 1", all else every value
+abbrev pub free : Named → Bool
+free (Register k) = true
+free (Probe channel) = true
+free Activate = false
+free Store = false
+free Nothing = true
 
--- "67h and 68h take a data value of 0 or 1"; a register takes every value
 abbrev pub takes : Named → ℕ → Bool
-takes named value = not (command named) || leb value 1
+takes named value = free named || leb value 1

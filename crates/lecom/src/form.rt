@@ -1,7 +1,7 @@
 // The dialect's type: its shortest and longest frame and the rest of its form, for frame checks and receivers; and what a code names.
 // Document 01, "LECOM".
 ghost use mathlib.Core.Path.{_≡_};
-ghost use Rattle.lecom.specs.Form.{lengthRight, namedBy, known, writable, command, takes};
+ghost use Rattle.lecom.specs.Form.{lengthRight, namedBy, known, writable, free, takes};
 
 pub struct Lecom {}
 
@@ -115,15 +115,16 @@ pub fn is_writable(named: Named) -> bool
     }
 }
 
-fn is_command(named: Named) -> bool
-    ensures { λ r. ⌜ r ≡ command named ⌝ }
+// Whether what is named takes every value, and not 0 and 1 alone.
+fn is_free(named: Named) -> bool
+    ensures { λ r. ⌜ r ≡ free named ⌝ }
 {
     match named {
-        Named::Register(_) => false,
-        Named::Probe(_) => false,
-        Named::Activate => true,
-        Named::Store => true,
-        Named::Nothing => false,
+        Named::Register(_) => true,
+        Named::Probe(_) => true,
+        Named::Activate => false,
+        Named::Store => false,
+        Named::Nothing => true,
     }
 }
 
@@ -131,5 +132,5 @@ fn is_command(named: Named) -> bool
 pub fn is_taken(named: Named, value: u32) -> bool
     ensures { λ r. ⌜ r ≡ takes named value ⌝ }
 {
-    !is_command(named) | (value <= 1)
+    is_free(named) | (value <= 1)
 }

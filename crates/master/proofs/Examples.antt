@@ -6,7 +6,7 @@ use Prim.Native.Nat.{ℕ}
 use lib.ListN.{replicate}
 use Rattle.wire.specs.Choose.{choose}
 use Rattle.wire.specs.Sum.{total, sumOf}
-use Rattle.datalink.specs.Frame.{framed}
+use Rattle.datalink.specs.Form.{framed}
 use Rattle.datalink.specs.Answer.{response}
 use Rattle.wire.specs.Buffer.{same}
 use Rattle.master.specs.Request.{Ask, askable, asAsked}

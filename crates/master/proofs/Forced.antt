@@ -79,4 +79,7 @@ asked-forced masks states old x i =
 pub asked-again : (a : Ask) (old i : ℕ) → asAsked a (asAsked a old i) i ≡ asAsked a old i
 unfolding asAsked
 asked-again (bytes sent) old i = refl
-asked-again (bits masks states) old i = forced-fixed (masked old (getD masks i 0) (getD states i 0)) (getD masks i 0) (getD states i 0) (λ b f. forced-state b old (getD masks i 0) (getD states i 0) f)
+asked-again (bits masks states) old i =
+    let m = getD masks i 0 in
+    let s = getD states i 0 in
+    forced-fixed (masked old m s) m s (λ b f. forced-state b old m s f)

@@ -16,6 +16,7 @@ use Rattle.master.specs.Request.Ask.{bytes, bits}
 use Rattle.master.specs.Accepted.{Accepted}
 use Rattle.master.specs.declared.request.Kind.{Kind}
 use Rattle.master.specs.declared.request.Kind.the-variants.{Bytes, Bits}
+use Rattle.master.specs.declared.request.Request.{Request as Passed}
 
 pub named-sent : (kind : Kind) (sent states : List ℕ) → namedBy (askOf kind sent states) ≡ length sent
 named-sent Bytes sent states = refl
@@ -29,13 +30,14 @@ pub paired-bits : (kind : Kind) (sent states : List ℕ) → kind ≡ Bits → p
 paired-bits kind sent states e h = eqb-true (length sent) (length states) (subst (λ (k : Kind). paired (askOf k sent states) ≡ true) e h)
 
 -- how many bytes are lent
-pub sent-few : (kind : Kind) (ia address : ℕ) (sent states : List ℕ) → Accepted (requestOf kind ia address sent states) → length sent ≤ dataMost
-sent-few kind ia address sent states a = omega (arith, a .few, named-sent kind sent states, named-few (askOf kind sent states))
+module _ (request : Passed) (sent states : List ℕ) (a : Accepted (requestOf request sent states)) where
+  pub sent-few : length sent ≤ dataMost
+  sent-few = omega (arith, a .few, named-sent (request .kind) sent states, named-few (askOf (request .kind) sent states))
 
-pub bits-few : (kind : Kind) (ia address : ℕ) (sent states : List ℕ) → kind ≡ Bits → Accepted (requestOf kind ia address sent states) → length sent + length sent ≤ dataMost
-bits-few kind ia address sent states e a =
-    let few : length sent ≤ dataMost / 2 = subst (λ (k : Kind). namedBy (askOf k sent states) ≤ namedMost (askOf k sent states)) e (a .few) in
-    omega arith
+  pub bits-few : request .kind ≡ Bits → length sent + length sent ≤ dataMost
+  bits-few e =
+      let few : length sent ≤ dataMost / 2 = subst (λ (k : Kind). namedBy (askOf k sent states) ≤ namedMost (askOf k sent states)) e (a .few) in
+      omega arith
 
 pub accepted : (q : Request) → askable q ≡ true → Accepted q
 unfolding askable

@@ -21,7 +21,8 @@ stepped-quiet m k p frame e gave =
     stepped-as (refuses k p) m e (record { numbered = gave .0 .0; measured = gave .0 .1; written = sym (overlay-none frame); moved = gave .1 })
 
 -- a step that sent a frame
-pub stepped-sent : (m : Move Phase) (bytes : List ℕ) (p : Phase) (frame frame′ : List ℕ) (len : ℕ) → sends bytes p ≡ m → Wrote bytes frame len frame′ → Stepped m frame answered len p frame′
+pub stepped-sent : (m : Move Phase) (bytes : List ℕ) (p : Phase) (frame frame′ : List ℕ) (len : ℕ) → sends bytes p ≡ m → Wrote bytes frame len frame′
+    → Stepped m frame answered len p frame′
 stepped-sent m bytes p frame frame′ len e w =
     stepped-as (sends bytes p) m e (record { numbered = refl; measured = w .measured; written = w .written; moved = refl })
 

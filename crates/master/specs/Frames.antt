@@ -6,7 +6,8 @@ use lib.Dec.{eqb}
 use lib.ListN.{length, getD}
 use Rattle.wire.specs.Buffer.{part, same}
 use Rattle.wire.specs.Sum.{byteValues}
-use Rattle.datalink.specs.Frame.{start, framed, dataPlace, interrogateBits, changeBitsBits, changeCommandBits, acknowledgeBits}
+use Rattle.datalink.specs.Form.{start, framed, interrogateBits, changeBitsBits, changeCommandBits, acknowledgeBits}
+use Rattle.datalink.specs.Form.{frameDataAt}
 use Rattle.datalink.specs.Answer.{response}
 use Rattle.master.specs.Request.{Ask, Request, namedBy, asAsked}
 use Rattle.master.specs.Request.Ask.{bytes, bits}
@@ -53,13 +54,21 @@ echo q = response (q .ia) (changeBody q)
 unfoldable pub isEcho : Request → List ℕ → Bool
 isEcho q answer = same answer (echo q)
 
+-- the data bytes of an answer with this NUM
+abbrev pub dataIn : ℕ → List ℕ → List ℕ
+dataIn num answer = part answer frameDataAt (frameDataAt + num)
+
+-- a response with this I.A., NUM and address, whatever data it shows: its length and LRC are right
+abbrev pub responds : ℕ → ℕ → ℕ → List ℕ → Bool
+responds ia num address answer = same answer (response ia (body num address (dataIn num answer)))
+
 -- the bytes that a read-back shows
 abbrev pub shownIn : Request → List ℕ → List ℕ
-shownIn q answer = part answer dataPlace (dataPlace + namedBy (q .ask))
+shownIn q answer = dataIn (namedBy (q .ask)) answer
 
 -- a response to the master's own interrogate: its I.A., NUM, address, length and LRC are right
 unfoldable pub isResponse : Request → List ℕ → Bool
-isResponse q answer = same answer (response (q .ia) (body (namedBy (q .ask)) (q .address) (shownIn q answer)))
+isResponse q answer = responds (q .ia) (namedBy (q .ask)) (q .address) answer
 
 -- the first k bytes read have "every byte, or every forced bit, as asked": asking for it again would change nothing
 unfoldable pub allAsked : Ask → List ℕ → ℕ → Bool

@@ -11,6 +11,7 @@ use Rattle.card.specs.Layout.{dataMost}
 use Rattle.card.specs.Fitness.{iaMost}
 use Rattle.master.specs.declared.request.Kind.{Kind}
 use Rattle.master.specs.declared.request.Kind.the-variants.{Bytes, Bits}
+use Rattle.master.specs.declared.request.Request.{Request as Passed}
 
 -- what is asked: bytes, or masks and states
 pub data Ask : Type 0 where
@@ -23,13 +24,13 @@ pub record Request : Type 0 where
   pub address : ℕ
   pub ask : Ask
 
--- a request as it is lent: sent holds the bytes, or the masks; the states are looked at for bits alone
+-- a request as it is passed: beside the struct, sent holds the bytes, or the masks; the states are looked at for bits alone
 abbrev pub askOf : Kind → List ℕ → List ℕ → Ask
 askOf Bytes sent states = bytes sent
 askOf Bits sent states = bits sent states
 
-abbrev pub requestOf : Kind → ℕ → ℕ → List ℕ → List ℕ → Request
-requestOf kind ia address sent states = record { ia = ia; address = address; ask = askOf kind sent states }
+abbrev pub requestOf : Passed → List ℕ → List ℕ → Request
+requestOf request sent states = record { ia = request .ia; address = request .address; ask = askOf (request .kind) sent states }
 
 -- how many bytes are named
 abbrev pub namedBy : Ask → ℕ

@@ -7,7 +7,7 @@ use lib.ListN.{length}
 use Rattle.wire.specs.Choose.{choose}
 use Rattle.wire.specs.Buffer.{overlay}
 use Rattle.card.specs.Numbers.{answered, done, valueOutside, nothingPending, bufferShort}
-use Rattle.datalink.specs.Frame.{longest}
+use Rattle.datalink.specs.Form.{longest}
 use Rattle.master.specs.Request.{Request, askable}
 use Rattle.master.specs.Frames.{changeFrame, acknowledgeFrame, interrogateFrame, isEcho, confirms}
 use Rattle.master.specs.declared.Phase.{Phase}

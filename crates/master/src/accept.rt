@@ -1,5 +1,6 @@
 // Which requests the master accepts, and what a byte is as asked.
 use crate::request::Kind;
+use crate::request::Request;
 use card::fitness::IA_MOST;
 use card::layout::DATA_MOST;
 ghost use mathlib.Core.Path.{_≡_};
@@ -34,10 +35,11 @@ fn is_paired(kind: Kind, sent: &[u8], states: &[u8]) -> bool
 }
 
 // Whether number 7 does not refuse the request.
-pub fn is_askable(kind: Kind, ia: u32, address: u32, sent: &[u8], states: &[u8]) -> bool
-    ensures { λ r. ⌜ r ≡ askable (requestOf kind ia address (now (sent .entry)) (now (states .entry))) ⌝ }
+pub fn is_askable(request: Request, sent: &[u8], states: &[u8]) -> bool
+    ensures { λ r. ⌜ r ≡ askable (requestOf request (now (sent .entry)) (now (states .entry))) ⌝ }
 {
-    if IA_MOST < ia {
+    let kind = request.kind;
+    if IA_MOST < request.ia {
         return false;
     }
     if named_most(kind, sent, states) < sent.len() {
@@ -46,10 +48,10 @@ pub fn is_askable(kind: Kind, ia: u32, address: u32, sent: &[u8], states: &[u8])
     if !is_paired(kind, sent, states) {
         return false;
     }
-    if ADDRESS_MOST < address {
+    if ADDRESS_MOST < request.address {
         return false;
     }
-    address + sent.len() as u32 <= ADDRESS_END
+    request.address + sent.len() as u32 <= ADDRESS_END
 }
 
 // Byte i as asked, where old was there.

@@ -1,64 +1,109 @@
-// The answers that the master takes: an exact echo, and a read-back with everything as asked.
+// The answers that the master takes: an exact echo, and a read-back with everything as asked. An answer is compared where it stands.
 use crate::accept;
-use crate::frame;
 use crate::request::Kind;
+use crate::request::Request;
 use datalink::form::Datalink;
+use wire::BYTE_VALUES;
 ghost use mathlib.Core.Path.{_≡_};
 ghost use mathlib.Core.Bool.{true};
-ghost use Prim.Native.Nat.{_≤_};
+ghost use Prim.Native.Nat.{_*_, _≤_};
 ghost use lib.ListN.{length};
 ghost use Rattle.wire.specs.Buffer.{same};
-ghost use Rattle.master.specs.Request.{askOf, requestOf, paired};
+ghost use Rattle.card.specs.Layout.{dataMost};
+ghost use Rattle.card.specs.Fitness.{iaMost};
+ghost use Rattle.master.specs.Request.{askOf, requestOf, paired, addressMost};
 ghost use Rattle.master.specs.Accepted.{Accepted};
-ghost use Rattle.master.specs.Frames.{isEcho, isResponse, allAsked, confirms};
+ghost use Rattle.master.specs.Frames.{pairs, dataOf, isEcho, responds, allAsked, confirms};
 
-// Whether two slices hold the same bytes.
+// Whether two slices of one length hold the same bytes.
 fn is_same(a: &[u8], b: &[u8]) -> bool
+    requires { ⌜ length (now a) ≡ length (now b) ⌝ }
     ensures { λ r. ⌜ r ≡ same (now (a .entry)) (now (b .entry)) ⌝ }
 {
-    if a.len() != b.len() {
-        return false;
-    }
+    let mut ok = true;
     let mut i = 0;
     while i < a.len() {
-        if a[i] != b[i] {
-            return false;
-        }
+        ok = ok & (a[i] == b[i]);
         i += 1;
     }
-    true
+    ok
+}
+
+// Whether bytes shown are masks and states by turns.
+fn is_by_turns(shown: &[u8], masks: &[u8], states: &[u8]) -> bool
+    requires { ⌜ (length (now masks) ≡ length (now states)) × (length (now shown) ≡ 2 * length (now masks)) ⌝ }
+    ensures { λ r. ⌜ r ≡ same (now (shown .entry)) (pairs (now (masks .entry)) (now (states .entry))) ⌝ }
+{
+    let mut ok = true;
+    let mut i = 0;
+    while i < masks.len() {
+        let mask = shown[2 * i] == masks[i];
+        let state = shown[2 * i + 1] == states[i];
+        ok = ok & (mask & state);
+        i += 1;
+    }
+    ok
+}
+
+// How many data bytes the request's change has.
+fn num_of(request: Request, sent: &[u8], states: &[u8]) -> usize
+    requires { ⌜ Accepted (requestOf request (now sent) (now states)) ⌝ }
+    ensures { λ r. ⌜ r ≡ length (dataOf (askOf (request .kind) (now (sent .entry)) (now (states .entry)))) ⌝ }
+{
+    let kind = request.kind;
+    match kind {
+        Kind::Bytes => sent.len(),
+        Kind::Bits => 2 * sent.len(),
+    }
+}
+
+// Whether bytes shown are the data of the request's change.
+fn is_data(kind: Kind, sent: &[u8], states: &[u8], shown: &[u8]) -> bool
+    requires { let ask = askOf kind (now sent) (now states) in
+        ⌜ (paired ask ≡ true) × (length (now shown) ≡ length (dataOf ask)) ⌝ }
+    ensures { λ r. ⌜ r ≡ same (now (shown .entry)) (dataOf (askOf kind (now (sent .entry)) (now (states .entry)))) ⌝ }
+{
+    match kind {
+        Kind::Bytes => is_same(shown, sent),
+        Kind::Bits => is_by_turns(shown, sent, states),
+    }
+}
+
+// Whether an answer is a response with this I.A., NUM and address, whatever data it shows.
+fn is_response(answer: &[u8], ia: u32, num: usize, address: u32) -> bool
+    requires { ⌜ (ia ≤ iaMost) × ((num ≤ dataMost) × (address ≤ addressMost)) ⌝ }
+    ensures { λ r. ⌜ r ≡ responds ia num address (now (answer .entry)) ⌝ }
+{
+    let last = Datalink::DATA + num;
+    if answer.len() != last + 1 {
+        return false;
+    }
+    let second = Datalink::RESPONSE + ia as u8;
+    let head = [
+        Datalink::START,
+        second,
+        num as u8,
+        (address % BYTE_VALUES) as u8,
+        (address / BYTE_VALUES) as u8,
+    ];
+    if !is_same(&answer[..Datalink::DATA], &head) {
+        return false;
+    }
+    answer[last] == wire::sum(&answer[Datalink::SECOND..last])
 }
 
 // Whether an answer is the exact echo of the request's change.
-pub fn is_echo(kind: Kind, ia: u32, address: u32, sent: &[u8], states: &[u8], answer: &[u8]) -> bool
-    requires { ⌜ Accepted (requestOf kind ia address (now sent) (now states)) ⌝ }
-    ensures { λ r. ⌜ r ≡ isEcho (requestOf kind ia address (now (sent .entry)) (now (states .entry))) (now (answer .entry)) ⌝ }
+pub fn is_echo(request: Request, sent: &[u8], states: &[u8], answer: &[u8]) -> bool
+    requires { ⌜ Accepted (requestOf request (now sent) (now states)) ⌝ }
+    ensures { λ r. ⌜ r ≡ isEcho (requestOf request (now (sent .entry)) (now (states .entry))) (now (answer .entry)) ⌝ }
 {
-    let mut echo = [0u8; Datalink::LONGEST];
-    let second = Datalink::RESPONSE + ia as u8;
-    let n = frame::write_change(&mut echo, second, kind, ia, address, sent, states);
-    is_same(answer, &echo[..n])
-}
-
-// Whether an answer is a response to the master's own interrogate.
-fn is_response(kind: Kind, ia: u32, address: u32, sent: &[u8], states: &[u8], answer: &[u8]) -> bool
-    requires { ⌜ Accepted (requestOf kind ia address (now sent) (now states)) ⌝ }
-    ensures { λ r. ⌜ r ≡ isResponse (requestOf kind ia address (now (sent .entry)) (now (states .entry))) (now (answer .entry)) ⌝ }
-{
-    let e = Datalink::DATA + sent.len();
-    if answer.len() < e {
+    let num = num_of(request, sent, states);
+    if !is_response(answer, request.ia, num, request.address) {
         return false;
     }
-    let mut response = [0u8; Datalink::LONGEST];
-    let second = Datalink::RESPONSE + ia as u8;
-    let n = frame::write(
-        &mut response,
-        second,
-        sent.len(),
-        address,
-        &answer[Datalink::DATA..e],
-    );
-    is_same(answer, &response[..n])
+    let kind = request.kind;
+    let e = Datalink::DATA + num;
+    is_data(kind, sent, states, &answer[Datalink::DATA..e])
 }
 
 // Whether every byte read, or every forced bit, is as asked.
@@ -77,20 +122,14 @@ fn all_asked(kind: Kind, sent: &[u8], states: &[u8], read: &[u8]) -> bool
 }
 
 // Whether an answer is a read-back with everything as asked.
-pub fn is_confirmed(
-    kind: Kind,
-    ia: u32,
-    address: u32,
-    sent: &[u8],
-    states: &[u8],
-    answer: &[u8],
-) -> bool
-    requires { ⌜ Accepted (requestOf kind ia address (now sent) (now states)) ⌝ }
-    ensures { λ r. ⌜ r ≡ confirms (requestOf kind ia address (now (sent .entry)) (now (states .entry))) (now (answer .entry)) ⌝ }
+pub fn is_confirmed(request: Request, sent: &[u8], states: &[u8], answer: &[u8]) -> bool
+    requires { ⌜ Accepted (requestOf request (now sent) (now states)) ⌝ }
+    ensures { λ r. ⌜ r ≡ confirms (requestOf request (now (sent .entry)) (now (states .entry))) (now (answer .entry)) ⌝ }
 {
-    if !is_response(kind, ia, address, sent, states, answer) {
+    if !is_response(answer, request.ia, sent.len(), request.address) {
         return false;
     }
+    let kind = request.kind;
     let e = Datalink::DATA + sent.len();
     all_asked(kind, sent, states, &answer[Datalink::DATA..e])
 }

@@ -1,5 +1,6 @@
-// The frames that the master sends, and the answers that it expects in the same form.
+// The frames that the master sends.
 use crate::request::Kind;
+use crate::request::Request;
 use card::layout::DATA_MOST;
 use datalink::form::Datalink;
 use datalink::write::write_frame;
@@ -12,13 +13,13 @@ ghost use Rattle.wire.specs.Buffer.{overlay};
 ghost use Rattle.card.specs.Layout.{dataMost};
 ghost use Rattle.card.specs.Reply.{Wrote};
 ghost use Rattle.card.specs.Fitness.{iaMost};
-ghost use Rattle.datalink.specs.Frame.{start, acknowledgeBits, framed, longest};
+ghost use Rattle.datalink.specs.Form.{start, acknowledgeBits, framed, longest};
 ghost use Rattle.master.specs.Request.{askOf, requestOf, addressMost};
 ghost use Rattle.master.specs.Accepted.{Accepted};
-ghost use Rattle.master.specs.Frames.{pairs, body, commandOf, changeBody, changeFrame, interrogateFrame};
+ghost use Rattle.master.specs.Frames.{pairs, body, commandOf, changeFrame, interrogateFrame};
 
 // Writes a frame of this second byte, NUM, address and data at the front of out.
-pub fn write(out: &mut [u8], second: u8, num: usize, address: u32, bytes: &[u8]) -> usize
+fn write(out: &mut [u8], second: u8, num: usize, address: u32, bytes: &[u8]) -> usize
     requires { ⌜ ((num ≤ dataMost) × (address ≤ addressMost)) × ((length (now bytes) ≤ dataMost) × (longest ≤ length (now out))) ⌝ }
     ensures { λ r. ⌜ Wrote (framed second (body num address (now (bytes .entry)))) (now (out .entry)) r (now (out .exit)) ⌝ }
 {
@@ -43,30 +44,6 @@ fn interleave(masks: &[u8], states: &[u8], out: &mut [u8])
     }
 }
 
-// Writes a frame of this second byte with the body of the request's change: the change itself, or its exact echo.
-pub fn write_change(
-    out: &mut [u8],
-    second: u8,
-    kind: Kind,
-    ia: u32,
-    address: u32,
-    sent: &[u8],
-    states: &[u8],
-) -> usize
-    requires { ⌜ Accepted (requestOf kind ia address (now sent) (now states)) × (longest ≤ length (now out)) ⌝ }
-    ensures { λ r. ⌜ Wrote (framed second (changeBody (requestOf kind ia address (now (sent .entry)) (now (states .entry))))) (now (out .entry)) r (now (out .exit)) ⌝ }
-{
-    match kind {
-        Kind::Bytes => write(out, second, sent.len(), address, sent),
-        Kind::Bits => {
-            let num = 2 * sent.len();
-            let mut data = [0u8; DATA_MOST];
-            interleave(sent, states, &mut data);
-            write(out, second, num, address, &data[..num])
-        }
-    }
-}
-
 // The command of the request's change.
 fn command_of(kind: Kind, sent: &[u8], states: &[u8]) -> u8
     ensures { λ r. ⌜ r ≡ commandOf (askOf kind (now (sent .entry)) (now (states .entry))) ⌝ }
@@ -78,19 +55,23 @@ fn command_of(kind: Kind, sent: &[u8], states: &[u8]) -> u8
 }
 
 // Sends the request's change.
-pub fn change(
-    out: &mut [u8],
-    kind: Kind,
-    ia: u32,
-    address: u32,
-    sent: &[u8],
-    states: &[u8],
-) -> usize
-    requires { ⌜ Accepted (requestOf kind ia address (now sent) (now states)) × (longest ≤ length (now out)) ⌝ }
-    ensures { λ r. ⌜ Wrote (changeFrame (requestOf kind ia address (now (sent .entry)) (now (states .entry)))) (now (out .entry)) r (now (out .exit)) ⌝ }
+pub fn change(out: &mut [u8], request: Request, sent: &[u8], states: &[u8]) -> usize
+    requires { ⌜ Accepted (requestOf request (now sent) (now states)) × (longest ≤ length (now out)) ⌝ }
+    ensures { λ r.
+        let q = requestOf request (now (sent .entry)) (now (states .entry)) in
+        ⌜ Wrote (changeFrame q) (now (out .entry)) r (now (out .exit)) ⌝ }
 {
-    let second = command_of(kind, sent, states) + ia as u8;
-    write_change(out, second, kind, ia, address, sent, states)
+    let kind = request.kind;
+    let second = command_of(kind, sent, states) + request.ia as u8;
+    match kind {
+        Kind::Bytes => write(out, second, sent.len(), request.address, sent),
+        Kind::Bits => {
+            let num = 2 * sent.len();
+            let mut data = [0u8; DATA_MOST];
+            interleave(sent, states, &mut data);
+            write(out, second, num, request.address, &data[..num])
+        }
+    }
 }
 
 // Sends the acknowledge.
@@ -104,17 +85,12 @@ pub fn acknowledge(out: &mut [u8], ia: u32) -> usize
 }
 
 // Sends an interrogate of the bytes named.
-pub fn interrogate(
-    out: &mut [u8],
-    kind: Kind,
-    ia: u32,
-    address: u32,
-    sent: &[u8],
-    states: &[u8],
-) -> usize
-    requires { ⌜ Accepted (requestOf kind ia address (now sent) (now states)) × (longest ≤ length (now out)) ⌝ }
-    ensures { λ r. ⌜ Wrote (interrogateFrame (requestOf kind ia address (now (sent .entry)) (now (states .entry)))) (now (out .entry)) r (now (out .exit)) ⌝ }
+pub fn interrogate(out: &mut [u8], request: Request, sent: &[u8], states: &[u8]) -> usize
+    requires { ⌜ Accepted (requestOf request (now sent) (now states)) × (longest ≤ length (now out)) ⌝ }
+    ensures { λ r.
+        let q = requestOf request (now (sent .entry)) (now (states .entry)) in
+        ⌜ Wrote (interrogateFrame q) (now (out .entry)) r (now (out .exit)) ⌝ }
 {
-    let second = Datalink::INTERROGATE + ia as u8;
-    write(out, second, sent.len(), address, b"")
+    let second = Datalink::INTERROGATE + request.ia as u8;
+    write(out, second, sent.len(), request.address, b"")
 }

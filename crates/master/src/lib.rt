@@ -10,11 +10,11 @@ use card::numbers::DONE;
 use card::numbers::NOTHING_PENDING;
 use card::numbers::VALUE_OUTSIDE;
 use datalink::form::Datalink;
-use request::Kind;
+use request::Request;
 ghost use mathlib.Core.Path.{_≡_};
 ghost use Prim.Native.Nat.{_≤_};
 ghost use lib.ListN.{length};
-ghost use Rattle.datalink.specs.Frame.{longest};
+ghost use Rattle.datalink.specs.Form.{longest};
 ghost use Rattle.master.specs.Request.{requestOf};
 ghost use Rattle.master.specs.Accepted.{Accepted};
 ghost use Rattle.master.specs.Step.{saysOf, Stepped, move, stepOf};
@@ -71,40 +71,40 @@ fn without_frame(number: u8, phase: Phase) -> StepOutcome
 // The move in each phase, for a request that 7 does not refuse and a frame buffer that is long enough.
 fn move_on(
     phase: Phase,
-    kind: Kind,
-    ia: u32,
-    address: u32,
+    request: Request,
     sent: &[u8],
     states: &[u8],
     answer: &[u8],
     frame: &mut [u8],
 ) -> StepOutcome
-    requires { ⌜ Accepted (requestOf kind ia address (now sent) (now states)) × (longest ≤ length (now frame)) ⌝ }
-    ensures { λ r. ⌜ Stepped (move (requestOf kind ia address (now (sent .entry)) (now (states .entry))) phase (now (answer .entry))) (now (frame .entry)) (r .number) (r .len) (r .phase) (now (frame .exit)) ⌝ }
+    requires { ⌜ Accepted (requestOf request (now sent) (now states)) × (longest ≤ length (now frame)) ⌝ }
+    ensures { λ r.
+        let q = requestOf request (now (sent .entry)) (now (states .entry)) in
+        ⌜ Stepped (move q phase (now (answer .entry))) (now (frame .entry)) (r .number) (r .len) (r .phase) (now (frame .exit)) ⌝ }
 {
     match phase {
         Phase::New => StepOutcome {
             number: ANSWERED,
-            len: frame::change(frame, kind, ia, address, sent, states),
+            len: frame::change(frame, request, sent, states),
             phase: Phase::Changing,
         },
         Phase::Changing => {
-            if !answer::is_echo(kind, ia, address, sent, states, answer) {
+            if !answer::is_echo(request, sent, states, answer) {
                 return without_frame(DONE, Phase::EndedUnknown);
             }
             StepOutcome {
                 number: ANSWERED,
-                len: frame::acknowledge(frame, ia),
+                len: frame::acknowledge(frame, request.ia),
                 phase: Phase::Acknowledging,
             }
         }
         Phase::Acknowledging => StepOutcome {
             number: ANSWERED,
-            len: frame::interrogate(frame, kind, ia, address, sent, states),
+            len: frame::interrogate(frame, request, sent, states),
             phase: Phase::Reading,
         },
         Phase::Reading => {
-            if !answer::is_confirmed(kind, ia, address, sent, states, answer) {
+            if !answer::is_confirmed(request, sent, states, answer) {
                 return without_frame(DONE, Phase::EndedUnknown);
             }
             without_frame(DONE, Phase::EndedDone)
@@ -117,21 +117,22 @@ fn move_on(
 // The master's step: the phase as the last step returned it, the request, an answer (empty: none) to the frame last sent, and a buffer for the next frame.
 pub fn step(
     phase: Phase,
-    kind: Kind,
-    ia: u32,
-    address: u32,
+    request: Request,
     sent: &[u8],
     states: &[u8],
     answer: &[u8],
     frame: &mut [u8],
 ) -> StepOutcome
-    ensures { λ r. ⌜ Stepped (stepOf (requestOf kind ia address (now (sent .entry)) (now (states .entry))) phase (now (answer .entry)) (length (now (frame .entry)))) (now (frame .entry)) (r .number) (r .len) (r .phase) (now (frame .exit)) ⌝ }
+    ensures { λ r.
+        let q = requestOf request (now (sent .entry)) (now (states .entry)) in
+        let before = now (frame .entry) in
+        ⌜ Stepped (stepOf q phase (now (answer .entry)) (length before)) before (r .number) (r .len) (r .phase) (now (frame .exit)) ⌝ }
 {
-    if !accept::is_askable(kind, ia, address, sent, states) {
+    if !accept::is_askable(request, sent, states) {
         return without_frame(VALUE_OUTSIDE, phase);
     }
     if frame.len() < Datalink::LONGEST {
         return without_frame(BUFFER_SHORT, phase);
     }
-    move_on(phase, kind, ia, address, sent, states, answer, frame)
+    move_on(phase, request, sent, states, answer, frame)
 }

@@ -1,5 +1,5 @@
 -- `datalink::datalink` meets its contract: 12, then 11, then the dialect. Assumes nothing.
-use mathlib.Core.Path.{_≡_, ap, _∙_}
+use mathlib.Core.Path.{_≡_}
 use mathlib.Core.Bool.{true}
 use Prim.Native.Nat.{_≤_}
 use native.Mathlib.Omega.{arith}
@@ -8,9 +8,8 @@ use Rattle.card.specs.Layout.{cardOf}
 use Rattle.card.specs.Fitness.{fit}
 use Rattle.card.specs.Reply.{roomLeast}
 use Rattle.card.proofs.Facts.{fit-facts}
-use Rattle.card.proofs.Replies.{early-none, shell-stopped, shell-passed, gave-as}
-use Rattle.datalink.specs.Frame.{asked}
-use Rattle.datalink.specs.Answer.{iaOf, obeyed, datalinkReply}
+use Rattle.card.proofs.Replies.{early-none, shell-stopped, shell-passed}
+use Rattle.datalink.specs.Answer.{iaOf, datalinkReply}
 use borrow.Author.Needs.{needs}
 use Rattle.datalink.proofs.datalink.Statement.{statement}
 use Rattle.datalink.proofs.datalink.Tie as tie
@@ -28,6 +27,7 @@ returns : tie.Need-returns
 unfolding datalinkReply
 returns c = shell-stopped _ _ _ _ (c .before .stop-early .ensures) (c .if1 .taken)
 
+-- the card is fit and the answer buffer is long enough
 passed : (c : tie.Else1) → (fit (cardOf (c .before .before .before .before .before .before .before .before .before .args .words .now) (c .before .before .before .before .before .before .before .before .before .args .memory .now) (c .before .before .before .before .before .before .before .before .before .args .pending .now)) ≡ true) × (roomLeast ≤ length (c .before .before .before .before .before .before .before .before .before .args .out .now))
 passed c = early-none _ _ _ (c .before .stop-early .ensures) (c .if1 .left)
 

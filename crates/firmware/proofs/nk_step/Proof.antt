@@ -5,11 +5,11 @@ use borrow.Author.Needs.{needs}
 use Rattle.firmware.proofs.nk_step.Statement.{statement}
 use Rattle.firmware.proofs.nk_step.Tie as tie
 
-phase-of-requires : tie.Need-phase-of-requires
-phase-of-requires c κs = search needs
-
 kind-of-requires : tie.Need-kind-of-requires
 kind-of-requires c κs = search needs
+
+phase-of-requires : tie.Need-phase-of-requires
+phase-of-requires c κs = search needs
 
 step-requires : tie.Need-step-requires
 step-requires c κs = search needs
@@ -23,16 +23,17 @@ same-length c = search needs
 returns : tie.Need-returns
 unfolding stepInC
 returns c =
-    let given = c .before .before .before .step .ensures in
-    rw (← c .before .before .before .before .before .before .phase-of .ensures, ← c .before .before .before .before .before .kind-of .ensures)
-    (record { numbered = given .numbered; measured = given .measured; moved = c .code-of .ensures ∙ ap codeOf (given .moved); written = given .written })
+    let went = c .before .before .before .step .ensures in
+    let told = c .before .before .before .before .before in
+    rw (← told .phase-of .ensures, ← told .before .before .kind-of .ensures)
+    (record { numbered = went .numbered; measured = went .measured; moved = c .code-of .ensures ∙ ap codeOf (went .moved); written = went .written })
 
 pub nk-step-spec : {M : Type 1} → statement M
 nk-step-spec =
     tie.close
     (tie.spec
-    phase-of-requires
     kind-of-requires
+    phase-of-requires
     step-requires
     code-of-requires
     same-length

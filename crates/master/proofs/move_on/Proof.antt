@@ -25,7 +25,10 @@ without-frame-requires c κs = search needs
 
 returns : tie.Need-returns
 unfolding move
-returns c = stepped-quiet _ _ _ _ (moved _ _ _ _ _ (c .before .before .before .enum-told2 .given .1) (no _ _ _ _ (told-no (c .before .before .is-echo .ensures) (c .before .if1 .taken)) refl)) (c .without-frame .ensures)
+returns c =
+    let heard = c .before .before in
+    let wrong = told-no (heard .is-echo .ensures) (c .before .if1 .taken) in
+    stepped-quiet _ _ _ _ (moved _ _ _ _ _ (heard .before .enum-told2 .given .1) (no _ _ _ _ wrong refl)) (c .without-frame .ensures)
 
 acknowledge-requires : tie.Need-acknowledge-requires
 acknowledge-requires c κs = search needs
@@ -47,7 +50,10 @@ without-frame-requires-2 c κs = search needs
 
 returns-2 : tie.Need-returns-2
 unfolding move
-returns-2 c = stepped-quiet _ _ _ _ (moved _ _ _ _ _ (c .before .before .before .enum-told4 .given .1) (no _ _ _ _ (told-no (c .before .before .is-confirmed .ensures) (c .before .if2 .taken)) refl)) (c .without-frame2 .ensures)
+returns-2 c =
+    let heard = c .before .before in
+    let wrong = told-no (heard .is-confirmed .ensures) (c .before .if2 .taken) in
+    stepped-quiet _ _ _ _ (moved _ _ _ _ _ (heard .before .enum-told4 .given .1) (no _ _ _ _ wrong refl)) (c .without-frame2 .ensures)
 
 without-frame-requires-3 : tie.Need-without-frame-requires-3
 without-frame-requires-3 c κs = search needs
@@ -76,7 +82,11 @@ same-length-2 c = search needs
 
 returns-4 : tie.Need-returns-4
 unfolding move acknowledgeFrame
-returns-4 c = stepped-sent _ _ _ _ _ _ (moved _ _ _ _ _ (c .before .before .before .before .before .before .enum-told2 .given .1) (yes _ _ _ _ (told-yes (c .before .before .before .before .before .is-echo .ensures) (c .before .before .before .before .if1 .left)) refl)) (c .before .before .acknowledge .ensures)
+returns-4 c =
+    let sent = c .before .before in
+    let heard = sent .before .before .before in
+    let right = told-yes (heard .is-echo .ensures) (sent .before .before .if1 .left) in
+    stepped-sent _ _ _ _ _ _ (moved _ _ _ _ _ (heard .before .enum-told2 .given .1) (yes _ _ _ _ right refl)) (sent .acknowledge .ensures)
 
 same-length-3 : tie.Need-same-length-3
 same-length-3 c = search needs
@@ -87,7 +97,10 @@ returns-5 c = stepped-sent _ _ _ _ _ _ (moved _ _ _ _ _ (c .before .before .befo
 
 returns-6 : tie.Need-returns-6
 unfolding move
-returns-6 c = stepped-quiet _ _ _ _ (moved _ _ _ _ _ (c .before .before .before .enum-told4 .given .1) (yes _ _ _ _ (told-yes (c .before .before .is-confirmed .ensures) (c .before .if2 .left)) refl)) (c .without-frame3 .ensures)
+returns-6 c =
+    let heard = c .before .before in
+    let right = told-yes (heard .is-confirmed .ensures) (c .before .if2 .left) in
+    stepped-quiet _ _ _ _ (moved _ _ _ _ _ (heard .before .enum-told4 .given .1) (yes _ _ _ _ right refl)) (c .without-frame3 .ensures)
 
 returns-7 : tie.Need-returns-7
 unfolding move

@@ -24,7 +24,10 @@ without-frame-requires-2 c κs = search needs
 
 returns-2 : tie.Need-returns-2
 unfolding stepOf
-returns-2 c = stepped-quiet _ _ _ _ (yes _ _ _ _ (told-yes (c .before .before .before .is-askable .ensures) (c .before .before .if1 .left)) (no _ _ _ _ (lt-leb _ _ (c .before .if2 .taken)) refl)) (c .without-frame2 .ensures)
+returns-2 c =
+    let asked = c .before .before in
+    let right = told-yes (asked .before .is-askable .ensures) (asked .if1 .left) in
+    stepped-quiet _ _ _ _ (yes _ _ _ _ right (no _ _ _ _ (lt-leb _ _ (c .before .if2 .taken)) refl)) (c .without-frame2 .ensures)
 
 move-on-requires : tie.Need-move-on-requires
 move-on-requires c κs = (accepted _ (told-yes (c .before .before .before .is-askable .ensures) (c .before .before .if1 .left)), c .before .if2 .left)
@@ -34,7 +37,11 @@ same-length c = search needs
 
 returns-3 : tie.Need-returns-3
 unfolding stepOf
-returns-3 c = stepped-as _ _ (yes _ _ _ _ (told-yes (c .before .before .before .before .before .before .is-askable .ensures) (c .before .before .before .before .before .if1 .left)) (yes _ _ _ _ (le-leb _ _ (c .before .before .before .before .if2 .left)) refl)) (c .before .before .move-on .ensures)
+returns-3 c =
+    let long = c .before .before .before .before in
+    let asked = long .before in
+    let right = told-yes (asked .before .is-askable .ensures) (asked .if1 .left) in
+    stepped-as _ _ (yes _ _ _ _ right (yes _ _ _ _ (le-leb _ _ (long .if2 .left)) refl)) (c .before .before .move-on .ensures)
 
 pub step-spec : {M : Type 1} → statement M
 step-spec =

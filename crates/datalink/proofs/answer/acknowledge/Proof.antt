@@ -4,7 +4,8 @@ use Rattle.datalink.specs.Answer.{acknowledged, applied, appliedTo}
 use Rattle.card.proofs.Replies.{did-silent, did-as, same-card}
 use Rattle.card.specs.Entries.{dropped}
 use Rattle.card.specs.Change.{addressOf}
-use Rattle.card.specs.Layout.{kindAt, numAt, lowAddressAt, highAddressAt}
+use Rattle.card.specs.Layout.{kindAt, numAt, lowAddressAt, highAddressAt, dataAt}
+use Rattle.card.specs.Numbers.{nothingPending}
 use Rattle.wire.proofs.Buffers.{part-rest}
 use Rattle.wire.proofs.Cases.{yes, no}
 use lib.ListN.{getD, length-drop}
@@ -24,7 +25,7 @@ slice-read-kind c = search needs
 
 returns : tie.Need-returns
 unfolding acknowledged
-returns c = did-as _ _ (yes _ _ _ _ (eq-eqb _ _ (c .if1 .taken)) refl) (did-silent 10 _)
+returns c = did-as _ _ (yes _ _ _ _ (eq-eqb _ _ (c .if1 .taken)) refl) (did-silent nothingPending _)
 
 slice-read-address : tie.Need-slice-read-address
 slice-read-address c = search needs
@@ -67,8 +68,8 @@ apply-requires c κs =
     let s = c .before .before .before .before .before .before .before .before .before .before .before .before .before .args in
     let w = named-bytes (c .before .before .before .before .before .before .before .before) in
     let n = c .before .before .before .bytes-named .ensures in
-    let l = length-drop 4 (s .pending .now) in
-    rw (part-rest (s .pending .now) 4) (omega (arith, c .before .before .before .before .before .address .ensures, w .start, w .end), (omega (arith, w .most), λ k. omega (arith, w .pairs k)))
+    let l = length-drop dataAt (s .pending .now) in
+    rw (part-rest (s .pending .now) dataAt) (omega (arith, c .before .before .before .before .before .address .ensures, w .start, w .end), (omega (arith, w .most), λ k. omega (arith, w .pairs k)))
 
 slice-write-pending : tie.Need-slice-write-pending
 slice-write-pending c = search needs
@@ -84,7 +85,7 @@ unfolding acknowledged applied appliedTo dropped
 returns-2 c =
     let s = c .before .before .before .before .before .before .before .before .before .before .before .before .before .before .before .before .args in
     did-as _ _ (no _ _ _ _ (ne-eqb _ _ (c .before .before .before .before .before .before .before .before .before .before .before .if1 .left)) refl)
-    (record { quiet = refl; numbered = refl; left = same-card refl (c .before .before .apply .ensures ∙ rw (part-rest (s .pending .now) 4, c .before .before .before .before .before .before .before .before .address .ensures, c .before .before .before .before .before .before .bytes-named .ensures)) refl })
+    (record { quiet = refl; numbered = refl; left = same-card refl (c .before .before .apply .ensures ∙ rw (part-rest (s .pending .now) dataAt, c .before .before .before .before .before .before .before .before .address .ensures, c .before .before .before .before .before .before .bytes-named .ensures)) refl })
 
 pub acknowledge-spec : {M : Type 1} → statement M
 acknowledge-spec =

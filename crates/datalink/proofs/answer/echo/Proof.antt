@@ -1,4 +1,5 @@
 -- `datalink::answer::echo` meets its contract. Assumes nothing.
+use Rattle.datalink.specs.Form.{frameNumAt, frameDataAt}
 use Rattle.datalink.specs.Answer.{response, bodyOf}
 use Rattle.card.proofs.Replies.{wrote-as}
 use Rattle.wire.proofs.Buffers.{part-append}
@@ -55,7 +56,7 @@ returns : tie.Need-returns
 unfolding bodyOf
 returns c =
     let a = c .before .before .before .before .before .before .before .before .before .before .before .before .before .before .args in
-    (wrote-as _ _ (ap (response (a .ia)) (part-append (a .f .now) 2 5 (5 + a .num) (omega arith) (omega arith))) (c .before .before .before .before .before .before .before .respond .ensures), c .before .before .pend .ensures)
+    (wrote-as _ _ (ap (response (a .ia)) (part-append (a .f .now) frameNumAt frameDataAt (frameDataAt + a .num) (omega arith) (omega arith))) (c .before .before .before .before .before .before .before .respond .ensures), c .before .before .pend .ensures)
 
 pub echo-spec : {M : Type 1} → statement M
 echo-spec =

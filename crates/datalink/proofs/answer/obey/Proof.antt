@@ -1,7 +1,6 @@
 -- `datalink::answer::obey` meets its contract, order by order. Assumes nothing.
-use mathlib.Core.Path.{refl, sym, ap, _∙_, subst}
+use mathlib.Core.Path.{refl, sym, _∙_, subst}
 use native.Mathlib.Omega.{arith}
-use Rattle.card.specs.Layout.{cardOf}
 use Rattle.card.proofs.Replies.{gave-silent, gave-did, same-card}
 use Rattle.datalink.specs.Answer.{obeyed, interrogated, shown, echoed, pended, iaOf}
 use Rattle.datalink.proofs.Frames.{Sound, asked-sound}

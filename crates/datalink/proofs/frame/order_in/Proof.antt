@@ -1,5 +1,5 @@
--- `datalink::frame::order_in` meets its contract: a frame that is no Acknowledge has NUM and address. Assumes nothing.
-use mathlib.Core.Path.{_≡_, sym, _∙_}
+-- `datalink::frame::order_in` meets its contract. Assumes nothing.
+use mathlib.Core.Path.{sym, _∙_}
 use Prim.Native.Nat.{_≤_}
 use native.Mathlib.Omega.{arith}
 use lib.ListN.{length}
@@ -16,6 +16,7 @@ returns c = order-acknowledge _ (sym (c .before .before .pre .0) ∙ c .if1 .tak
 kind-of-requires : tie.Need-kind-of-requires
 kind-of-requires c κs = search needs
 
+-- the frame is no Acknowledge, so it has NUM and address
 long : (c : tie.Else1) → bareSize ≤ length (c .before .before .args .f .now)
 long c = omega (arith, form-facts _ (λ e. c .if1 .left (c .before .before .pre .0 ∙ e)) (c .before .before .pre .1))
 

@@ -18,6 +18,7 @@ returns : tie.Need-returns
 unfolding asked
 returns c = search cases
 
+-- a frame of a right length has its second byte
 long : (c : tie.Else1) → shortest ≤ length (c .before .before .before .args .f .now)
 long c = between-facts shortest longest _ (told-yes (c .before .fits2 .ensures) (c .if1 .left)) .0
 

@@ -1,7 +1,8 @@
 -- `datalink::write::write_frame` meets its contract: the frame grows at its end, and the LRC comes last. Assumes nothing.
+use mathlib.Core.List.{_++_}
 use native.Mathlib.Omega.{arith}
-use lib.ListN.{length-set}
-use Rattle.datalink.proofs.Writes.{frame-written}
+use lib.ListN.{length-set, length-append}
+use Rattle.datalink.proofs.Writes.{framed-length, frame-written}
 use borrow.Author.Needs.{needs}
 use Rattle.datalink.proofs.write.write_frame.Statement.{statement}
 use Rattle.datalink.proofs.write.write_frame.Tie as tie
@@ -50,7 +51,10 @@ returns c =
     let a = c .before .before .before .before .before .before .before .before .before .before .before .before .before .before .args in
     let first = c .before .before .before .before .before .before .before .before .before .copy in
     let then = c .before .before .before .before .before .copy2 in
-    frame-written (a .second) (a .head .now) (a .bytes .now) (a .out .now) (first .last .1 .0) (then .last .1 .0) (omega arith) (first .ensures) (then .ensures) (c .sum .result) (c .sum .ensures)
+    record {
+      measured = omega (arith, framed-length (a .second) (a .head .now ++ a .bytes .now), length-append (a .head .now) (a .bytes .now));
+      written = frame-written (a .second) (a .head .now) (a .bytes .now) (a .out .now) (first .last .1 .0) (then .last .1 .0) (omega arith) (first .ensures) (then .ensures) (c .sum .result) (c .sum .ensures);
+    }
 
 pub write-frame-spec : {M : Type 1} → statement M
 write-frame-spec =

@@ -3,11 +3,11 @@ use borrow.Author.Needs.{needs}
 use Rattle.lecom.proofs.form.is_taken.Statement.{statement}
 use Rattle.lecom.proofs.form.is_taken.Tie as tie
 
-is-command-requires : tie.Need-is-command-requires
-is-command-requires c κs = search needs
+is-free-requires : tie.Need-is-free-requires
+is-free-requires c κs = search needs
 
 returns : tie.Need-returns
-returns c = rw (c .is-command .ensures)
+returns c = rw (c .is-free .ensures)
 
 pub is-taken-spec : {M : Type 1} → statement M
-is-taken-spec = tie.close (tie.spec is-command-requires returns)
+is-taken-spec = tie.close (tie.spec is-free-requires returns)

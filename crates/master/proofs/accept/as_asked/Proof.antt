@@ -19,7 +19,11 @@ shared-slice-read-result-2 : tie.Need-shared-slice-read-result-2
 shared-slice-read-result-2 c = search needs
 
 shared-slice-read-result-3 : tie.Need-shared-slice-read-result-3
-shared-slice-read-result-3 c = omega (arith, paired-bits (c .before .before .before .before .args .kind) (c .before .before .before .before .args .sent .now) (c .before .before .before .before .args .states .now) (c .before .before .enum-told2 .given .1) (c .before .before .before .before .pre .1))
+shared-slice-read-result-3 c =
+    let s = c .before .before in
+    let start = s .before .before in
+    let a = start .args in
+    omega (arith, paired-bits (a .kind) (a .sent .now) (a .states .now) (s .enum-told2 .given .1) (start .pre .1))
 
 returns : tie.Need-returns
 unfolding asAsked

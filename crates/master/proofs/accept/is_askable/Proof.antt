@@ -17,28 +17,53 @@ named-most-requires c κs = search needs
 
 returns-2 : tie.Need-returns-2
 unfolding askable
-returns-2 c = rw (le-leb _ _ (c .before .before .if1 .left), named-sent (c .before .before .before .before .before .args .kind) (c .before .before .before .before .before .args .sent .now) (c .before .before .before .before .before .args .states .now), lt-leb _ _ (rw (c .before .named-most .ensures) at (c .if2 .taken)))
+returns-2 c =
+    let a = c .before .before .before .before .before .before .args in
+    let few = lt-leb _ _ (rw (c .before .named-most .ensures) at (c .if2 .taken)) in
+    rw (le-leb _ _ (c .before .before .if1 .left), named-sent (a .request .kind) (a .sent .now) (a .states .now), few)
 
 is-paired-requires : tie.Need-is-paired-requires
 is-paired-requires c κs = search needs
 
 returns-3 : tie.Need-returns-3
 unfolding askable
-returns-3 c = rw (le-leb _ _ (c .before .before .before .before .if1 .left), named-sent (c .before .before .before .before .before .before .before .args .kind) (c .before .before .before .before .before .before .before .args .sent .now) (c .before .before .before .before .before .before .before .args .states .now), ← c .before .before .before .named-most .ensures, le-leb _ _ (c .before .before .if2 .left), told-no (c .before .is-paired .ensures) (c .if3 .taken))
+returns-3 c =
+    let few = c .before .before in
+    let a = c .before .before .before .before .before .before .before .before .args in
+    let ia = le-leb _ _ (few .before .before .if1 .left) in
+    rw (ia, named-sent (a .request .kind) (a .sent .now) (a .states .now), ← few .before .named-most .ensures, le-leb _ _ (few .if2 .left), told-no (c .before .is-paired .ensures) (c .if3 .taken))
 
 returns-4 : tie.Need-returns-4
 unfolding askable
-returns-4 c = rw (le-leb _ _ (c .before .before .before .before .before .if1 .left), named-sent (c .before .before .before .before .before .before .before .before .args .kind) (c .before .before .before .before .before .before .before .before .args .sent .now) (c .before .before .before .before .before .before .before .before .args .states .now), ← c .before .before .before .before .named-most .ensures, le-leb _ _ (c .before .before .before .if2 .left), told-yes (c .before .before .is-paired .ensures) (c .before .if3 .left), lt-leb _ _ (c .if4 .taken))
+returns-4 c =
+    let pairs = c .before .before in
+    let few = pairs .before .before in
+    let a = c .before .before .before .before .before .before .before .before .before .before .args in
+    let ia = le-leb _ _ (few .before .before .if1 .left) in
+    let paired = told-yes (pairs .before .is-paired .ensures) (pairs .if3 .left) in
+    rw (ia, named-sent (a .request .kind) (a .sent .now) (a .states .now), ← few .before .named-most .ensures, le-leb _ _ (few .if2 .left), paired, lt-leb _ _ (c .if4 .taken))
 
 cast-result : tie.Need-cast-result
-cast-result c = omega (arith, named-few (askOf (c .before .before .before .before .before .before .before .before .args .kind) (c .before .before .before .before .before .before .before .before .args .sent .now) (c .before .before .before .before .before .before .before .before .args .states .now)), c .before .before .before .before .named-most .ensures, c .before .before .before .if2 .left)
+cast-result c =
+    let few = c .before .before .before .before in
+    let a = c .before .before .before .before .before .before .before .before .before .before .args in
+    omega (arith, named-few (askOf (a .request .kind) (a .sent .now) (a .states .now)), few .before .named-most .ensures, few .if2 .left)
 
 add-result : tie.Need-add-result
-add-result c = omega (arith, named-few (askOf (c .before .before .before .before .before .before .before .before .args .kind) (c .before .before .before .before .before .before .before .before .args .sent .now) (c .before .before .before .before .before .before .before .before .args .states .now)), c .before .before .before .before .named-most .ensures, c .before .before .before .if2 .left)
+add-result c =
+    let few = c .before .before .before .before .before in
+    let a = c .before .before .before .before .before .before .before .before .before .before .before .args in
+    omega (arith, named-few (askOf (a .request .kind) (a .sent .now) (a .states .now)), few .before .named-most .ensures, few .if2 .left)
 
 returns-5 : tie.Need-returns-5
 unfolding askable
-returns-5 c = rw (le-leb _ _ (c .before .before .before .before .before .if1 .left), named-sent (c .before .before .before .before .before .before .before .before .args .kind) (c .before .before .before .before .before .before .before .before .args .sent .now) (c .before .before .before .before .before .before .before .before .args .states .now), ← c .before .before .before .before .named-most .ensures, le-leb _ _ (c .before .before .before .if2 .left), told-yes (c .before .before .is-paired .ensures) (c .before .if3 .left), le-leb _ _ (c .if4 .left))
+returns-5 c =
+    let pairs = c .before .before .before in
+    let few = pairs .before .before in
+    let a = c .before .before .before .before .before .before .before .before .before .before .before .args in
+    let ia = le-leb _ _ (few .before .before .if1 .left) in
+    let paired = told-yes (pairs .before .is-paired .ensures) (pairs .if3 .left) in
+    rw (ia, named-sent (a .request .kind) (a .sent .now) (a .states .now), ← few .before .named-most .ensures, le-leb _ _ (few .if2 .left), paired, le-leb _ _ (c .before .if4 .left))
 
 pub is-askable-spec : {M : Type 1} → statement M
 is-askable-spec =

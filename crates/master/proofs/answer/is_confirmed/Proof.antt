@@ -1,20 +1,25 @@
--- `master::answer::is_confirmed` meets its contract. Assumes nothing.
+-- `master::answer::is_confirmed` meets its contract: a response, and in it everything as asked. Assumes nothing.
+use lib.ListN.{length}
 use native.Mathlib.Omega.{arith}
 use Rattle.wire.proofs.Cases.{told-no, told-yes}
-use Rattle.master.proofs.Frames.{response-long}
-use Rattle.master.proofs.Requests.{named-sent}
-use Rattle.master.specs.Frames.{confirms}
-use Rattle.master.specs.Request.{requestOf}
+use Rattle.master.proofs.Frames.{responds-long}
+use Rattle.master.proofs.Requests.{named-sent, sent-few}
+use Rattle.master.specs.Frames.{isResponse, confirms}
 use borrow.Author.Needs.{needs}
 use Rattle.master.proofs.answer.is_confirmed.Statement.{statement}
 use Rattle.master.proofs.answer.is_confirmed.Tie as tie
 
 is-response-requires : tie.Need-is-response-requires
-is-response-requires c κs = search needs
+is-response-requires c κs =
+    let start = c .before .before .before in
+    let a = start .args in
+    (start .pre .ia, (sent-few (a .request) (a .sent .now) (a .states .now) (start .pre), start .pre .address))
 
 returns : tie.Need-returns
-unfolding confirms
-returns c = rw (told-no (c .before .is-response .ensures) (c .if1 .taken))
+unfolding confirms isResponse
+returns c =
+    let a = c .before .before .before .before .before .args in
+    rw (named-sent (a .request .kind) (a .sent .now) (a .states .now), told-no (c .before .is-response .ensures) (c .if1 .taken))
 
 add-e : tie.Need-add-e
 add-e c = search needs
@@ -26,14 +31,19 @@ part-all-asked-start : tie.Need-part-all-asked-start
 part-all-asked-start c = search needs
 
 part-all-asked-end : tie.Need-part-all-asked-end
-part-all-asked-end c = omega (arith, response-long (requestOf (c .before .before .before .before .before .args .kind) (c .before .before .before .before .before .args .ia) (c .before .before .before .before .before .args .address) (c .before .before .before .before .before .args .sent .now) (c .before .before .before .before .before .args .states .now)) (c .before .before .before .before .before .args .answer .now) (told-yes (c .before .is-response .ensures) (c .if1 .left)), named-sent (c .before .before .before .before .before .args .kind) (c .before .before .before .before .before .args .sent .now) (c .before .before .before .before .before .args .states .now))
+part-all-asked-end c =
+    let a = c .before .before .before .before .before .args in
+    omega (arith, responds-long (a .request .ia) (length (a .sent .now)) (a .request .address) (a .answer .now) (told-yes (c .before .is-response .ensures) (c .if1 .left)))
 
 all-asked-requires : tie.Need-all-asked-requires
 all-asked-requires c κs = search needs
 
 returns-2 : tie.Need-returns-2
-unfolding confirms
-returns-2 c = rw (told-yes (c .before .before .before .is-response .ensures) (c .before .before .if1 .left), named-sent (c .before .before .before .before .before .before .before .args .kind) (c .before .before .before .before .before .before .before .args .sent .now) (c .before .before .before .before .before .before .before .args .states .now)) (c .all-asked .ensures)
+unfolding confirms isResponse
+returns-2 c =
+    let heard = c .before .before in
+    let a = c .before .before .before .before .before .before .before .args in
+    rw (named-sent (a .request .kind) (a .sent .now) (a .states .now), told-yes (heard .before .is-response .ensures) (heard .if1 .left)) (c .all-asked .ensures)
 
 pub is-confirmed-spec : {M : Type 1} → statement M
 is-confirmed-spec =

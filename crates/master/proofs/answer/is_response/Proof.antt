@@ -1,26 +1,23 @@
--- `master::answer::is_response` meets its contract: the response that is due, compared. Assumes nothing.
-use Prim.{tt}
-use lib.Dec.{lit≤}
-use Prim.Native.Nat.{_+_, _-_}
-use lib.Seq.{length-take-le}
-use lib.ListN.{length, take, drop, length-take}
-use Rattle.datalink.proofs.Responses.{framed-length}
-use mathlib.Core.Path.{sym, ap, _∙_}
+-- `master::answer::is_response` meets its contract: the length, the head, then the LRC. Assumes nothing.
+use mathlib.Core.Path.{sym}
 use native.Mathlib.Omega.{arith}
-use Rattle.datalink.specs.Answer.{response}
-use Rattle.wire.specs.Buffer.{same}
-use Rattle.master.proofs.Frames.{response-short, wrote-front}
-use Rattle.master.proofs.Requests.{named-sent, sent-few}
-use Rattle.master.specs.Frames.{body, isResponse}
+use lib.Seq.{length-take-le}
+use Rattle.wire.proofs.Cases.{told-no, told-yes}
+use Rattle.master.proofs.Frames.{other-length, other-head, lrc-tells}
 use borrow.Author.Needs.{needs}
 use Rattle.master.proofs.answer.is_response.Statement.{statement}
 use Rattle.master.proofs.answer.is_response.Tie as tie
 
-add-e : tie.Need-add-e
-add-e c = search needs
+add-last : tie.Need-add-last
+add-last c = search needs
+
+add-if1 : tie.Need-add-if1
+add-if1 c = search needs
 
 returns : tie.Need-returns
-returns c = response-short _ _ (rw (named-sent (c .before .before .before .before .args .kind) (c .before .before .before .before .args .sent .now) (c .before .before .before .before .args .states .now)) (c .if1 .taken))
+returns c =
+    let a = c .before .before .args in
+    other-length (a .ia) (a .num) (a .address) (a .answer .now) (c .if1 .taken)
 
 cast-second : tie.Need-cast-second
 cast-second c = search needs
@@ -28,59 +25,70 @@ cast-second c = search needs
 add-second : tie.Need-add-second
 add-second c = search needs
 
-slice-aggregate-write : tie.Need-slice-aggregate-write
-slice-aggregate-write c = search needs
+cast-result : tie.Need-cast-result
+cast-result c = search needs
 
-sub-write : tie.Need-sub-write
-sub-write c = search needs
+cast-t13 : tie.Need-cast-t13
+cast-t13 c = search needs
 
-part-write-start : tie.Need-part-write-start
-part-write-start c = search needs
-
-part-write-end : tie.Need-part-write-end
-part-write-end c = search needs
-
-write-requires : tie.Need-write-requires
-write-requires c κs =
-    let few = sent-few (c .before .before .before .before .before .before .args .kind) (c .before .before .before .before .before .before .args .ia) (c .before .before .before .before .before .before .args .address) (c .before .before .before .before .before .before .args .sent .now) (c .before .before .before .before .before .before .args .states .now) (c .before .before .before .before .before .before .pre) in
-    let cut = length-take (5 + length (c .before .before .before .before .before .before .args .sent .now) - 5) (drop 5 (c .before .before .before .before .before .before .args .answer .now)) in
-    ((few, c .before .before .before .before .before .before .pre .address), (omega arith, lit≤ tt))
-
-array-share-prefix-response : tie.Need-array-share-prefix-response
-array-share-prefix-response c =
-    let few = sent-few (c .before .before .before .before .before .before .before .before .args .kind) (c .before .before .before .before .before .before .before .before .args .ia) (c .before .before .before .before .before .before .before .before .args .address) (c .before .before .before .before .before .before .before .before .args .sent .now) (c .before .before .before .before .before .before .before .before .args .states .now) (c .before .before .before .before .before .before .before .before .pre) in
-    let read = take (5 + length (c .before .before .before .before .before .before .before .before .args .sent .now) - 5) (drop 5 (c .before .before .before .before .before .before .before .before .args .answer .now)) in
-    let cut = length-take (5 + length (c .before .before .before .before .before .before .before .before .args .sent .now) - 5) (drop 5 (c .before .before .before .before .before .before .before .before .args .answer .now)) in
-    omega (arith, framed-length (32 + c .before .before .before .before .before .before .before .before .args .ia) (body (length (c .before .before .before .before .before .before .before .before .args .sent .now)) (c .before .before .before .before .before .before .before .before .args .address) read), c .before .write .ensures .measured, c .before .write .kept .0)
+cast-result-2 : tie.Need-cast-result-2
+cast-result-2 c = search needs
 
 slice-aggregate-is-same : tie.Need-slice-aggregate-is-same
-slice-aggregate-is-same c =
-    let few = sent-few (c .before .before .before .before .before .before .before .before .before .args .kind) (c .before .before .before .before .before .before .before .before .before .args .ia) (c .before .before .before .before .before .before .before .before .before .args .address) (c .before .before .before .before .before .before .before .before .before .args .sent .now) (c .before .before .before .before .before .before .before .before .before .args .states .now) (c .before .before .before .before .before .before .before .before .before .pre) in
-    let read = take (5 + length (c .before .before .before .before .before .before .before .before .before .args .sent .now) - 5) (drop 5 (c .before .before .before .before .before .before .before .before .before .args .answer .now)) in
-    let cut = length-take (5 + length (c .before .before .before .before .before .before .before .before .before .args .sent .now) - 5) (drop 5 (c .before .before .before .before .before .before .before .before .before .args .answer .now)) in
-    sym (length-take-le _ _ (omega (arith, framed-length (32 + c .before .before .before .before .before .before .before .before .before .args .ia) (body (length (c .before .before .before .before .before .before .before .before .before .args .sent .now)) (c .before .before .before .before .before .before .before .before .before .args .address) read), c .before .before .write .ensures .measured, c .before .before .write .kept .0)))
+slice-aggregate-is-same c = sym (length-take-le 5 (c .before .before .before .args .answer .now) (omega arith))
+
+slice-aggregate-is-same-2 : tie.Need-slice-aggregate-is-same-2
+slice-aggregate-is-same-2 c = search needs
 
 is-same-requires : tie.Need-is-same-requires
-is-same-requires c κs = search needs
+is-same-requires c κs = length-take-le 5 (c .before .before .before .before .args .answer .now) (omega arith)
 
 returns-2 : tie.Need-returns-2
-unfolding isResponse response
-returns-2 c = rw (named-sent (c .before .before .before .before .before .before .before .before .before .before .args .kind) (c .before .before .before .before .before .before .before .before .before .before .args .sent .now) (c .before .before .before .before .before .before .before .before .before .before .args .states .now)) (c .is-same .ensures ∙ ap (same (c .before .before .before .before .before .before .before .before .before .before .args .answer .now)) (wrote-front _ _ _ _ (c .before .before .before .write .ensures)))
+returns-2 c =
+    let a = c .before .before .before .before .before .before .args in
+    other-head (a .ia) (a .num) (a .address) (a .answer .now) (c .before .before .before .before .if1 .left) (told-no (c .before .is-same .ensures) (c .if2 .taken))
+
+shared-slice-read-result : tie.Need-shared-slice-read-result
+shared-slice-read-result c = search needs
+
+sub-sum : tie.Need-sub-sum
+sub-sum c = search needs
+
+part-sum-start : tie.Need-part-sum-start
+part-sum-start c = search needs
+
+part-sum-end : tie.Need-part-sum-end
+part-sum-end c = search needs
+
+sum-requires : tie.Need-sum-requires
+sum-requires c κs = search needs
+
+returns-3 : tie.Need-returns-3
+returns-3 c =
+    let headed = c .before .before .before in
+    let a = c .before .before .before .before .before .before .before .before .before .args in
+    let head = told-yes (headed .before .is-same .ensures) (headed .if2 .left) in
+    lrc-tells (a .ia) (a .num) (a .address) (a .answer .now) (c .before .before .before .before .before .before .before .if1 .left) (c .sum .result) head (c .sum .ensures)
 
 pub is-response-spec : {M : Type 1} → statement M
 is-response-spec =
     tie.close
     (tie.spec
-    add-e
+    add-last
+    add-if1
     returns
     cast-second
     add-second
-    slice-aggregate-write
-    sub-write
-    part-write-start
-    part-write-end
-    write-requires
-    array-share-prefix-response
+    cast-result
+    cast-t13
+    cast-result-2
     slice-aggregate-is-same
+    slice-aggregate-is-same-2
     is-same-requires
-    returns-2)
+    returns-2
+    shared-slice-read-result
+    sub-sum
+    part-sum-start
+    part-sum-end
+    sum-requires
+    returns-3)

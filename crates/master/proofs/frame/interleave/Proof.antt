@@ -53,7 +53,8 @@ loop-again : tie.Need-loop-again Inv-loop μ-loop
 loop-again c =
     let l = c .before .before .before .loop in
     let s = c .before .before .before .before in
-    (omega arith, (rw (length-set, length-set) (l .inv .1 .0), rw (l .inv .1 .1, add-one (l .i)) (pair-stored (s .args .masks .now) (s .args .states .now) (s .args .out .now) (l .i) (omega arith) (s .pre .0) (s .pre .1))))
+    let stored = pair-stored (s .args .masks .now) (s .args .states .now) (s .args .out .now) (l .i) (omega arith) (s .pre .0) (s .pre .1) in
+    (omega arith, (rw (length-set, length-set) (l .inv .1 .0), rw (l .inv .1 .1, add-one (l .i)) stored))
 
 same-length : tie.Need-same-length Inv-loop μ-loop
 same-length c = c .before .loop .inv .1 .0

@@ -1,7 +1,7 @@
 -- `master::frame::interrogate` meets its contract. Assumes nothing.
 use Prim.Native.Nat.{ℕ, _+_}
 use mathlib.Core.List.{[]}
-use Rattle.datalink.specs.Frame.{framed}
+use Rattle.datalink.specs.Form.{framed}
 use Rattle.card.proofs.Replies.{wrote-as}
 use mathlib.Core.Path.{sym, ap}
 use native.Mathlib.Omega.{arith}
@@ -21,14 +21,20 @@ slice-aggregate-write : tie.Need-slice-aggregate-write
 slice-aggregate-write c = search needs
 
 write-requires : tie.Need-write-requires
-write-requires c κs = ((sent-few (c .before .before .before .before .before .args .kind) (c .before .before .before .before .before .args .ia) (c .before .before .before .before .before .args .address) (c .before .before .before .before .before .args .sent .now) (c .before .before .before .before .before .args .states .now) (c .before .before .before .before .before .pre .0), c .before .before .before .before .before .pre .0 .address), (omega arith, c .before .before .before .before .before .pre .1))
+write-requires c κs =
+    let start = c .before .before .before .before .before .before in
+    let a = start .args in
+    ((sent-few (a .request) (a .sent .now) (a .states .now) (start .pre .0), start .pre .0 .address), (omega arith, start .pre .1))
 
 same-length : tie.Need-same-length
 same-length c = search needs
 
 returns : tie.Need-returns
 unfolding interrogateFrame
-returns c = wrote-as _ _ (ap (λ (n : ℕ). framed (224 + c .before .before .before .before .before .before .before .before .args .ia) (body n (c .before .before .before .before .before .before .before .before .args .address) [])) (sym (named-sent (c .before .before .before .before .before .before .before .before .args .kind) (c .before .before .before .before .before .before .before .before .args .sent .now) (c .before .before .before .before .before .before .before .before .args .states .now)))) (c .before .before .write .ensures)
+returns c =
+    let a = c .before .before .before .before .before .before .before .before .before .args in
+    let named = named-sent (a .request .kind) (a .sent .now) (a .states .now) in
+    wrote-as _ _ (ap (λ (n : ℕ). framed (224 + a .request .ia) (body n (a .request .address) [])) (sym named)) (c .before .before .write .ensures)
 
 pub interrogate-spec : {M : Type 1} → statement M
 interrogate-spec =
