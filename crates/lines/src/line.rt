@@ -130,20 +130,20 @@ pub fn read_number(s: &[u8], at: usize, most: u32) -> Number
     requires { ⌜ at ≤ length (now s) ⌝ }
     ensures { λ r. ⌜ (r .value ≤ most) × (r .next ≤ length (now (s .entry))) ⌝ }
 {
-    let end = word_end(s, at);
+    let word = read_word(s, at);
+    let end = word.end;
     let value = number_in(&s[at..end]);
-    let next = next_word(s, end);
     if (most as u64) < value {
         return Number {
             right: false,
             value: 0,
-            next,
+            next: word.next,
         };
     }
     Number {
         right: true,
         value: value as u32,
-        next,
+        next: word.next,
     }
 }
 

@@ -11,6 +11,14 @@ const SEMICOLON: u8 = b';';
 
 const GAP: usize = 2;
 
+// Where the usage line at from ends.
+fn usage_end(list: &[u8], from: usize) -> usize
+    requires { ⌜ from ≤ length (now list) ⌝ }
+    ensures { λ r. ⌜ (from ≤ r) × (r ≤ length (now (list .entry))) ⌝ }
+{
+    line::scan(list, from, SEMICOLON, true)
+}
+
 // A usage line in a list: where it ends, and where the next one starts or the list ends.
 struct Usage {
     end: usize,
@@ -22,7 +30,7 @@ fn usage_at(list: &[u8], from: usize) -> Usage
     requires { ⌜ from < length (now list) ⌝ }
     ensures { λ r. ⌜ ((from ≤ r .end) × (r .end ≤ r .next)) × ((from < r .next) × (r .next ≤ length (now (list .entry)))) ⌝ }
 {
-    let end = line::scan(list, from, SEMICOLON, true);
+    let end = usage_end(list, from);
     if list.len() - end < GAP {
         return Usage {
             end,
