@@ -4,7 +4,3 @@ use Prim.Native.Nat.{ℕ}
 -- how many bytes are read from the input at once
 abbrev pub readMost : ℕ
 readMost = 4096
-
--- the words of an answer line around the usage of a call: "error expected " and " or "
-abbrev pub aroundMost : ℕ
-aroundMost = 19

@@ -1,3 +1,4 @@
 pub mod Held
 pub mod Lent
+pub mod Parted
 pub mod Stepped

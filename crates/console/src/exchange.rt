@@ -1,6 +1,6 @@
 // The line master that the console keeps: request and step.
 use crate::arguments;
-use crate::calls::STEP;
+use crate::call::ExchangeCall;
 use lines::ANSWER_MOST;
 use lines::BYTES_MOST;
 use lines::ROOM_MOST;
@@ -70,10 +70,13 @@ fn read_sent(
     ensures { λ r. ⌜ Held (r .sent) (r .states) ⌝ }
 {
     let sent = line::read_bytes(s, at, to);
-    let slash = line::read_name(s, sent.next, b"/");
+    let from = sent.next;
+    let slash = line::read_word(s, from);
+    let stop = slash.end;
+    let divided = line::is_word(&s[from..stop], b"/");
     let states = line::read_bytes(s, slash.next, back);
-    let change = sent.next == s.len();
-    let bits = (slash.number == 0) & (states.next == s.len());
+    let change = from == s.len();
+    let bits = divided & (states.next == s.len());
     Sent {
         right: (change & !is_bits) | (bits & is_bits),
         sent: sent.count,
@@ -81,12 +84,34 @@ fn read_sent(
     }
 }
 
-// The kind of a request by its first word.
-fn kind_of(is_bits: bool) -> Kind {
-    if is_bits {
-        return Kind::Bits;
+// The kind of a request by its first word: whether there is one, which, and where the next word starts.
+struct Form {
+    right: bool,
+    is_bits: bool,
+    kind: Kind,
+    next: usize,
+}
+
+// change or bits
+fn read_form(s: &[u8]) -> Form
+    ensures { λ r. ⌜ r .next ≤ length (now (s .entry)) ⌝ }
+{
+    let word = line::read_word(s, 0);
+    let end = word.end;
+    if line::is_word(&s[..end], b"bits") {
+        return Form {
+            right: true,
+            is_bits: true,
+            kind: Kind::Bits,
+            next: word.next,
+        };
     }
-    Kind::Bytes
+    Form {
+        right: line::is_word(&s[..end], b"change"),
+        is_bits: false,
+        kind: Kind::Bytes,
+        next: word.next,
+    }
 }
 
 // The request that a line asks for; where it cannot be read, none is asked.
@@ -94,14 +119,13 @@ fn read_request(s: &[u8], to: &mut [u8; BYTES_MOST], back: &mut [u8; BYTES_MOST]
     requires { ⌜ length (now s) ≤ lineMost ⌝ }
     ensures { λ r. ⌜ Held (r .sent) (r .states) ⌝ }
 {
-    let how = line::read_name(s, 0, b"change; bits");
-    let ia = line::read_number(s, how.next, u32::MAX);
+    let form = read_form(s);
+    let ia = line::read_number(s, form.next, u32::MAX);
     let address = line::read_number(s, ia.next, u32::MAX);
-    let is_bits = how.number == 1;
-    let got = read_sent(s, address.next, is_bits, to, back);
-    let kind = kind_of(is_bits);
+    let got = read_sent(s, address.next, form.is_bits, to, back);
+    let kind = form.kind;
     Exchange {
-        asked: (how.number <= 1) & (ia.right & (address.right & got.right)),
+        asked: form.right & (ia.right & (address.right & got.right)),
         kind,
         ia: ia.value,
         address: address.value,
@@ -113,7 +137,7 @@ fn read_request(s: &[u8], to: &mut [u8; BYTES_MOST], back: &mut [u8; BYTES_MOST]
 
 // request change IA ADDRESS BYTES or request bits IA ADDRESS MASKS / STATES. Its bytes are read apart: a line that cannot be read
 // leaves the kept ones as they are.
-pub fn request(
+fn request(
     e: Exchange,
     s: &[u8],
     sent: &mut [u8; BYTES_MOST],
@@ -221,7 +245,7 @@ fn take_step(
 }
 
 // step ROOM BYTES
-pub fn step(
+fn step(
     e: Exchange,
     s: &[u8],
     sent: &[u8; BYTES_MOST],
@@ -232,7 +256,7 @@ pub fn step(
     ensures { λ r. ⌜ Answered (r .len) (r .exchange .sent) (r .exchange .states) ⌝ }
 {
     let mut f = [0u8; BYTES_MOST];
-    let a = arguments::read(STEP, s, &mut f);
+    let a = arguments::room_and_bytes(s, &mut f);
     if !a.right {
         return Answer {
             len: UNREAD,
@@ -244,5 +268,23 @@ pub fn step(
         return Answer { len, exchange: e };
     }
     let n = a.count;
-    take_step(e, sent, states, &f[..n], a.number as usize, out)
+    take_step(e, sent, states, &f[..n], a.room, out)
+}
+
+// A call of the line master, with the words s after its name.
+pub fn run(
+    call: ExchangeCall,
+    e: Exchange,
+    s: &[u8],
+    sent: &mut [u8; BYTES_MOST],
+    states: &mut [u8; BYTES_MOST],
+    out: &mut [u8; ANSWER_MOST],
+) -> Answer
+    requires { ⌜ (length (now s) ≤ lineMost) × Held (e .sent) (e .states) ⌝ }
+    ensures { λ r. ⌜ Answered (r .len) (r .exchange .sent) (r .exchange .states) ⌝ }
+{
+    match call {
+        ExchangeCall::Request => request(e, s, sent, states, out),
+        ExchangeCall::Step => step(e, s, sent, states, out),
+    }
 }

@@ -1,10 +1,14 @@
 // The console: reads calls from standard input, a line each, and writes each answer line at once. docs/CONSOLE.md.
 mod arguments;
-mod calls;
+mod call;
+mod card_calls;
 mod exchange;
+mod image_calls;
 mod input;
+mod question;
 mod reply;
 mod start;
+mod table_calls;
 
 use card::layout::MEMORY;
 use card::layout::PENDING;

@@ -34,11 +34,11 @@ const THIRD_CYCLE: usize = SECOND_CYCLE + PARAMETERS_EACH;
 
 const FOURTH_CYCLE: usize = THIRD_CYCLE + PARAMETERS_EACH;
 
-const SECOND_KEPT: usize = SAVED_PARAMETERS + PARAMETERS_EACH;
+const SECOND_SAVED: usize = SAVED_PARAMETERS + PARAMETERS_EACH;
 
-const THIRD_KEPT: usize = SECOND_KEPT + PARAMETERS_EACH;
+const THIRD_SAVED: usize = SECOND_SAVED + PARAMETERS_EACH;
 
-const FOURTH_KEPT: usize = THIRD_KEPT + PARAMETERS_EACH;
+const FOURTH_SAVED: usize = THIRD_SAVED + PARAMETERS_EACH;
 
 // The words, from zeros.
 pub fn start_words(words: &mut [u32])
@@ -57,9 +57,9 @@ pub fn start_words(words: &mut [u32])
     words[THIRD_CYCLE] = CYCLE_DEFAULT;
     words[FOURTH_CYCLE] = CYCLE_DEFAULT;
     words[SAVED_PARAMETERS] = CYCLE_DEFAULT;
-    words[SECOND_KEPT] = CYCLE_DEFAULT;
-    words[THIRD_KEPT] = CYCLE_DEFAULT;
-    words[FOURTH_KEPT] = CYCLE_DEFAULT;
+    words[SECOND_SAVED] = CYCLE_DEFAULT;
+    words[THIRD_SAVED] = CYCLE_DEFAULT;
+    words[FOURTH_SAVED] = CYCLE_DEFAULT;
 }
 
 // Memory, from zeros: no probe read yet.

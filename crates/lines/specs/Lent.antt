@@ -1,7 +1,5 @@
 -- What the console lends for one line: the line, and the buffer of the answer line.
-use Prim.Native.Nat.{ℕ, _≤_}
-use mathlib.Core.List.{List}
-use lib.ListN.{length}
+use Prim.Native.Nat.{ℕ}
 
 -- "error line longer than 32768 bytes"
 abbrev pub lineMost : ℕ
@@ -19,12 +17,9 @@ answerMost = 65536
 abbrev pub roomMost : ℕ
 roomMost = 1024
 
--- a list of names
+-- a list of usage lines, and the words before each: "error expected " or " or "
 abbrev pub listMost : ℕ
 listMost = 1024
 
--- a line that is no longer than one can be, read from a place in it, and the answer buffer
-pub record Asked (s : List ℕ) (at : ℕ) (out : List ℕ) : Type 0 where
-  pub inside : at ≤ length s
-  pub short : length s ≤ lineMost
-  pub room : answerMost ≤ length out
+abbrev pub beforeMost : ℕ
+beforeMost = 15

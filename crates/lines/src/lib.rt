@@ -1,6 +1,7 @@
-// The console's lines: words, numbers and bytes read from a line, and the parts of an answer line. docs/CONSOLE.md.
+// The console's lines: words, numbers and bytes read from a line, the parts of an answer line, and the usage of calls. docs/CONSOLE.md.
 pub mod line;
 pub mod text;
+pub mod usage;
 
 // The longest line, without its line feed.
 pub const LINE_MOST: usize = 32_768;

@@ -1,4 +1,4 @@
-// A line as it comes; its words, numbers and bytes; names in a list. A word is a run of bytes that are no spaces.
+// A line as it comes; its words, numbers and bytes. A word is a run of bytes that are no spaces.
 use crate::LINE_MOST;
 use crate::text::SPACE;
 use figures::DECIMAL;
@@ -11,11 +11,6 @@ ghost use Rattle.figures.specs.Figure.{noByte};
 ghost use Rattle.lines.specs.Lent.{lineMost};
 
 const MINUS: u8 = b'-';
-
-// Two entries of a list of names stand this and a space apart.
-const SEMICOLON: u8 = b';';
-
-const GAP: usize = 2;
 
 // "A number is decimal, of one to ten figures". A word that is none has a value above every limit.
 const FIGURES_MOST: usize = 10;
@@ -40,7 +35,7 @@ pub fn join(text: &mut [u8], n: usize, b: u8) -> usize
 }
 
 // The first place from at on where s has b, or, where has is false, another byte; else the end of s.
-fn scan(s: &[u8], at: usize, b: u8, has: bool) -> usize
+pub fn scan(s: &[u8], at: usize, b: u8, has: bool) -> usize
     requires { ⌜ at ≤ length (now s) ⌝ }
     ensures { λ r. ⌜ (at ≤ r) × (r ≤ length (now (s .entry))) ⌝ }
 {
@@ -64,11 +59,49 @@ pub fn next_word(s: &[u8], at: usize) -> usize
 }
 
 // Where the word at at ends.
-fn word_end(s: &[u8], at: usize) -> usize
+pub fn word_end(s: &[u8], at: usize) -> usize
     requires { ⌜ at ≤ length (now s) ⌝ }
     ensures { λ r. ⌜ (at ≤ r) × (r ≤ length (now (s .entry))) ⌝ }
 {
     scan(s, at, SPACE, true)
+}
+
+// A word of a line: where it ends, and where the next one starts.
+pub struct Word {
+    pub end: usize,
+    pub next: usize,
+}
+
+// The word at at.
+pub fn read_word(s: &[u8], at: usize) -> Word
+    requires { ⌜ at ≤ length (now s) ⌝ }
+    ensures { λ r. ⌜ (at ≤ r .end) × ((r .end ≤ r .next) × (r .next ≤ length (now (s .entry)))) ⌝ }
+{
+    let end = word_end(s, at);
+    let next = next_word(s, end);
+    Word { end, next }
+}
+
+// Whether s starts with the bytes of name.
+fn starts_with(s: &[u8], name: &[u8]) -> bool
+    requires { ⌜ length (now name) ≤ length (now s) ⌝ }
+{
+    let mut i = 0;
+    while i < name.len() {
+        if s[i] != name[i] {
+            return false;
+        }
+        i += 1;
+    }
+    true
+}
+
+// Whether a word is a name.
+pub fn is_word(word: &[u8], name: &[u8]) -> bool {
+    if word.len() != name.len() {
+        return false;
+    }
+    starts_with(word, name)
 }
 
 // The value of a word of decimal figures, or NO_NUMBER.
@@ -97,20 +130,20 @@ pub fn read_number(s: &[u8], at: usize, most: u32) -> Number
     requires { ⌜ at ≤ length (now s) ⌝ }
     ensures { λ r. ⌜ (r .value ≤ most) × (r .next ≤ length (now (s .entry))) ⌝ }
 {
-    let end = word_end(s, at);
+    let word = read_word(s, at);
+    let end = word.end;
     let value = number_in(&s[at..end]);
-    let next = next_word(s, end);
     if (most as u64) < value {
         return Number {
             right: false,
             value: 0,
-            next,
+            next: word.next,
         };
     }
     Number {
         right: true,
         value: value as u32,
-        next,
+        next: word.next,
     }
 }
 
@@ -167,85 +200,4 @@ pub fn read_bytes(s: &[u8], at: usize, to: &mut [u8]) -> Bytes
         next = next_word(s, next + PAIR);
     }
     Bytes { count, next }
-}
-
-// Whether s starts with the bytes of word.
-fn starts_with(s: &[u8], word: &[u8]) -> bool
-    requires { ⌜ length (now word) ≤ length (now s) ⌝ }
-{
-    let mut i = 0;
-    while i < word.len() {
-        if s[i] != word[i] {
-            return false;
-        }
-        i += 1;
-    }
-    true
-}
-
-// Where the entry at from of a list ends.
-pub fn entry_end(list: &[u8], from: usize) -> usize
-    requires { ⌜ from ≤ length (now list) ⌝ }
-    ensures { λ r. ⌜ (from ≤ r) × (r ≤ length (now (list .entry))) ⌝ }
-{
-    scan(list, from, SEMICOLON, true)
-}
-
-// Where the entry after the one at from starts, or the end of the list.
-pub fn next_entry(list: &[u8], from: usize) -> usize
-    requires { ⌜ from < length (now list) ⌝ }
-    ensures { λ r. ⌜ (from < r) × (r ≤ length (now (list .entry))) ⌝ }
-{
-    let end = entry_end(list, from);
-    if list.len() - end < GAP {
-        return list.len();
-    }
-    end + GAP
-}
-
-// How long the first word of the entry at from is.
-fn name_len(list: &[u8], from: usize) -> usize
-    requires { ⌜ from ≤ length (now list) ⌝ }
-    ensures { λ r. ⌜ from + r ≤ length (now (list .entry)) ⌝ }
-{
-    let end = entry_end(list, from);
-    word_end(&list[from..end], 0)
-}
-
-// Whether the entry at from has word as its first word.
-fn is_named(list: &[u8], from: usize, word: &[u8]) -> bool
-    requires { ⌜ from ≤ length (now list) ⌝ }
-{
-    if name_len(list, from) != word.len() {
-        return false;
-    }
-    starts_with(&list[from..], word)
-}
-
-// A name read from a line: the number of the entry that has it, counted from 0, or the count of entries where none has; where
-// that entry starts; where the line's next word starts.
-pub struct Name {
-    pub number: usize,
-    pub from: usize,
-    pub next: usize,
-}
-
-// The word at at as the first word of an entry of a list.
-pub fn read_name(s: &[u8], at: usize, list: &[u8]) -> Name
-    requires { ⌜ at ≤ length (now s) ⌝ }
-    ensures { λ r. ⌜ (r .from ≤ length (now (list .entry))) × (r .next ≤ length (now (s .entry))) ⌝ }
-{
-    let end = word_end(s, at);
-    let word = &s[at..end];
-    let next = next_word(s, end);
-    let mut number = 0;
-    let mut from = 0;
-    while from < list.len() {
-        if is_named(list, from, word) {
-            return Name { number, from, next };
-        }
-        from = next_entry(list, from);
-        number += 1;
-    }
-    Name { number, from, next }
 }

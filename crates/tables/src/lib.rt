@@ -32,7 +32,7 @@ ghost use mathlib.Core.Path.{_≡_};
 ghost use Prim.Native.Nat.{_+_, _≤_, _<_};
 ghost use lib.ListN.{length};
 ghost use Rattle.card.specs.Layout.{wordCount, pendingSize};
-ghost use Rattle.lines.specs.Lent.{answerMost, Asked};
+ghost use Rattle.lines.specs.Lent.{answerMost};
 ghost use Rattle.tables.specs.Entries.{Tables, pendingFrom, pendingCount, entryCount, mostOf, Tabled};
 
 // The pending change's entries: kind, address, NUM, data.
@@ -48,50 +48,61 @@ const ADDRESS_MOST: u32 = 65_535;
 
 const BYTE_MOST: u32 = 255;
 
-// The tables by their number in the list of `read_table`.
-const ADDRESS_TABLE: usize = 0;
-
-const PROBE_TABLE: usize = 1;
-
-const MEMORY_TABLE: usize = 2;
-
-const BUFFER_TABLE: usize = 3;
-
-const OPERATIONAL_TABLE: usize = 4;
-
-const SAVED_TABLE: usize = 5;
-
-const LOVE_TABLE: usize = 6;
-
-const DEMAND_TABLE: usize = 7;
-
-const PARAMETER_TABLE: usize = 8;
-
-const KEPT_TABLE: usize = 9;
-
-const PENDING_TABLE: usize = 10;
-
 // A run of entries: the first, and how many.
 struct Span(usize, usize);
 
-// The table of a name's number; a number that no name has gives no entries.
-fn span_of(number: usize) -> Span
+// The tables of LECOM registers.
+fn register_table(name: &[u8]) -> Span
     ensures { λ r. ⌜ Tabled (r .0) (r .1) ⌝ }
 {
-    match number {
-        ADDRESS_TABLE => Span(IA, LOVE),
-        PROBE_TABLE => Span(WORDS, CHANNELS),
-        MEMORY_TABLE => Span(WORDS, MEMORY),
-        BUFFER_TABLE => Span(BUFFER, REGISTERS),
-        OPERATIONAL_TABLE => Span(OPERATIONAL, REGISTERS),
-        SAVED_TABLE => Span(SAVED_REGISTERS, REGISTERS),
-        LOVE_TABLE => Span(LOVE, LOVE_COUNT),
-        DEMAND_TABLE => Span(DEMANDS, CHANNELS),
-        PARAMETER_TABLE => Span(PARAMETERS, PARAMETER_COUNT),
-        KEPT_TABLE => Span(SAVED_PARAMETERS, PARAMETER_COUNT),
-        PENDING_TABLE => Span(CHANGE_FROM, CHANGE_DATA + DATA_MOST),
-        _ => Span(0, 0),
+    if line::is_word(name, b"buffer") {
+        return Span(BUFFER, REGISTERS);
     }
+    if line::is_word(name, b"operational") {
+        return Span(OPERATIONAL, REGISTERS);
+    }
+    if line::is_word(name, b"saved") {
+        return Span(SAVED_REGISTERS, REGISTERS);
+    }
+    Span(0, 0)
+}
+
+// The other tables of words.
+fn word_table(name: &[u8]) -> Span
+    ensures { λ r. ⌜ Tabled (r .0) (r .1) ⌝ }
+{
+    if line::is_word(name, b"address") {
+        return Span(IA, LOVE);
+    }
+    if line::is_word(name, b"love") {
+        return Span(LOVE, LOVE_COUNT);
+    }
+    if line::is_word(name, b"demand") {
+        return Span(DEMANDS, CHANNELS);
+    }
+    if line::is_word(name, b"parameter") {
+        return Span(PARAMETERS, PARAMETER_COUNT);
+    }
+    if line::is_word(name, b"kept") {
+        return Span(SAVED_PARAMETERS, PARAMETER_COUNT);
+    }
+    register_table(name)
+}
+
+// The table of a name; a name that none has gives no entries.
+fn table_of(name: &[u8]) -> Span
+    ensures { λ r. ⌜ Tabled (r .0) (r .1) ⌝ }
+{
+    if line::is_word(name, b"probe") {
+        return Span(WORDS, CHANNELS);
+    }
+    if line::is_word(name, b"memory") {
+        return Span(WORDS, MEMORY);
+    }
+    if line::is_word(name, b"pending") {
+        return Span(CHANGE_FROM, CHANGE_DATA + DATA_MOST);
+    }
+    word_table(name)
 }
 
 // A table named in a line: its entries, and where the line's next word starts.
@@ -101,21 +112,17 @@ struct Table {
     next: usize,
 }
 
-// The word of the line at at as a table's name: the table, and where the next word starts.
-fn read_table(s: &[u8], at: usize) -> Table
-    requires { ⌜ at ≤ length (now s) ⌝ }
+// The first word of s as a table's name.
+fn read_table(s: &[u8]) -> Table
     ensures { λ r. ⌜ Tabled (r .first) (r .count) × (r .next ≤ length (now (s .entry))) ⌝ }
 {
-    let name = line::read_name(
-        s,
-        at,
-        b"address; probe; memory; buffer; operational; saved; love; demand; parameter; kept; pending",
-    );
-    let t = span_of(name.number);
+    let word = line::read_word(s, 0);
+    let end = word.end;
+    let t = table_of(&s[..end]);
     Table {
         first: t.0,
         count: t.1,
-        next: name.next,
+        next: word.next,
     }
 }
 
@@ -225,11 +232,10 @@ struct Change {
     value: u32,
 }
 
-fn read_poke(s: &[u8], at: usize) -> Change
-    requires { ⌜ at ≤ length (now s) ⌝ }
+fn read_poke(s: &[u8]) -> Change
     ensures { λ r. ⌜ (r .entry < entryCount) × (r .value ≤ mostOf (r .entry)) ⌝ }
 {
-    let t = read_table(s, at);
+    let t = read_table(s);
     let place = line::read_number(s, t.next, u32::MAX);
     let p = place.value as usize;
     if t.count <= p {
@@ -254,13 +260,12 @@ pub fn poke(
     memory: &mut [u8],
     pending: &mut [u8],
     s: &[u8],
-    at: usize,
     out: &mut [u8],
 ) -> usize
-    requires { ⌜ Tables (now words) (now memory) (now pending) × Asked (now s) at (now out) ⌝ }
+    requires { ⌜ Tables (now words) (now memory) (now pending) × (answerMost ≤ length (now out)) ⌝ }
     ensures { λ r. ⌜ r < answerMost ⌝ }
 {
-    let p = read_poke(s, at);
+    let p = read_poke(s);
     if !p.right {
         return UNREAD;
     }
@@ -311,18 +316,11 @@ fn show(
 }
 
 // peek TABLE
-pub fn peek(
-    words: &[u32],
-    memory: &[u8],
-    pending: &[u8],
-    s: &[u8],
-    at: usize,
-    out: &mut [u8],
-) -> usize
-    requires { ⌜ Tables (now words) (now memory) (now pending) × Asked (now s) at (now out) ⌝ }
+pub fn peek(words: &[u32], memory: &[u8], pending: &[u8], s: &[u8], out: &mut [u8]) -> usize
+    requires { ⌜ Tables (now words) (now memory) (now pending) × (answerMost ≤ length (now out)) ⌝ }
     ensures { λ r. ⌜ r < answerMost ⌝ }
 {
-    let t = read_table(s, at);
+    let t = read_table(s);
     let count = shown(t.first, t.count, pending);
     if count == 0 {
         return UNREAD;

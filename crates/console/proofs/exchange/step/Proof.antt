@@ -5,8 +5,8 @@ use borrow.Author.Needs.{needs}
 use Rattle.console.proofs.exchange.step.Statement.{statement}
 use Rattle.console.proofs.exchange.step.Tie as tie
 
-read-requires : tie.Need-read-requires
-read-requires c κs = search needs
+room-and-bytes-requires : tie.Need-room-and-bytes-requires
+room-and-bytes-requires c κs = search needs
 
 returns : tie.Need-returns
 returns c = search needs
@@ -26,9 +26,6 @@ array-share-prefix-f c = search needs
 slice-aggregate-take-step : tie.Need-slice-aggregate-take-step
 slice-aggregate-take-step c = simp length-take (omega arith)
 
-cast-take-step : tie.Need-cast-take-step
-cast-take-step c = search needs
-
 take-step-requires : tie.Need-take-step-requires
 take-step-requires c κs = search needs
 
@@ -39,13 +36,12 @@ pub step-spec : {M : Type 1} → statement M
 step-spec =
     tie.close
     (tie.spec
-    read-requires
+    room-and-bytes-requires
     returns
     slice-aggregate-put-words
     put-words-requires
     returns-2
     array-share-prefix-f
     slice-aggregate-take-step
-    cast-take-step
     take-step-requires
     returns-3)

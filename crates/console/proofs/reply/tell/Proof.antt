@@ -5,6 +5,9 @@ use borrow.Author.Needs.{needs}
 use Rattle.console.proofs.reply.tell.Statement.{statement}
 use Rattle.console.proofs.reply.tell.Tie as tie
 
+enum-told : tie.Need-enum-told
+enum-told c = search needs
+
 returns : tie.Need-returns
 returns c = search needs
 
@@ -30,6 +33,7 @@ pub tell-spec : {M : Type 1} → statement M
 tell-spec =
     tie.close
     (tie.spec
+    enum-told
     returns
     say-requires
     element-write-out

@@ -6,10 +6,10 @@ use Rattle.lines.proofs.line.starts_with.Statement.{statement}
 use Rattle.lines.proofs.line.starts_with.Tie as tie
 
 abbrev Inv-loop : tie.InvT-loop
-Inv-loop s word i₀ i = i ≤ length word
+Inv-loop s name i₀ i = i ≤ length name
 
 abbrev μ-loop : tie.MeasureT-loop
-μ-loop s word i₀ i = length word - i
+μ-loop s name i₀ i = length name - i
 
 loop-holds : tie.Need-loop-holds Inv-loop μ-loop
 loop-holds c = search needs

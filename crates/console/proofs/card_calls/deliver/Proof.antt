@@ -1,17 +1,29 @@
--- `console::calls::deliver` meets its contract. Assumes nothing.
+-- `console::card_calls::deliver` meets its contract. Assumes nothing.
 use Rattle.console.proofs.Answers.{answers}
 use borrow.Author.Needs.{needs}
-use Rattle.console.proofs.calls.deliver.Statement.{statement}
-use Rattle.console.proofs.calls.deliver.Tie as tie
+use Rattle.console.proofs.card_calls.deliver.Statement.{statement}
+use Rattle.console.proofs.card_calls.deliver.Tie as tie
+
+enum-told : tie.Need-enum-told
+enum-told c = search needs
 
 datalink-requires : tie.Need-datalink-requires
 datalink-requires c κs = search needs
 
+enum-told-2 : tie.Need-enum-told-2
+enum-told-2 c = search needs
+
 lecom-requires : tie.Need-lecom-requires
 lecom-requires c κs = search needs
 
+enum-told-3 : tie.Need-enum-told-3
+enum-told-3 c = search needs
+
 love-requires : tie.Need-love-requires
 love-requires c κs = search needs
+
+enum-told-4 : tie.Need-enum-told-4
+enum-told-4 c = search needs
 
 lucid-requires : tie.Need-lucid-requires
 lucid-requires c κs = search needs
@@ -44,9 +56,13 @@ pub deliver-spec : {M : Type 1} → statement M
 deliver-spec =
     tie.close
     (tie.spec
+    enum-told
     datalink-requires
+    enum-told-2
     lecom-requires
+    enum-told-3
     love-requires
+    enum-told-4
     lucid-requires
     same-length
     returns

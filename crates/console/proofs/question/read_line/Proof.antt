@@ -1,11 +1,11 @@
--- `console::reply::read_line` meets its contract. Assumes nothing.
+-- `console::question::read_line` meets its contract. Assumes nothing.
 use mathlib.Core.Path.{sym}
-use native.Mathlib.Omega.{arith}
 use lib.Seq.{length-take-le}
 use borrow.Table.Elements.{take-le}
+use Rattle.console.proofs.Parts.{parted-within}
 use borrow.Author.Needs.{needs}
-use Rattle.console.proofs.reply.read_line.Statement.{statement}
-use Rattle.console.proofs.reply.read_line.Tie as tie
+use Rattle.console.proofs.question.read_line.Statement.{statement}
+use Rattle.console.proofs.question.read_line.Tie as tie
 
 no-call-requires : tie.Need-no-call-requires
 no-call-requires c κs = search needs
@@ -26,7 +26,9 @@ read-words-requires : tie.Need-read-words-requires
 read-words-requires c κs = search needs
 
 returns-3 : tie.Need-returns-3
-returns-3 c = (search needs, omega (arith, take-le (c .before .before .before .before .before .args .n) (c .before .before .before .before .before .args .text .now)))
+returns-3 c =
+    let a = c .before .before .before .before .before .args in
+    parted-within (c .read-words .ensures) (take-le (a .n) (a .text .now))
 
 pub read-line-spec : {M : Type 1} → statement M
 read-line-spec =

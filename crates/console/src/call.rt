@@ -1,0 +1,118 @@
+// The calls: the lines that ask for them, and the call that a line's first word names. docs/CONSOLE.md.
+use lines::line;
+
+// The lines of the calls, as `help` writes them. A line that cannot be read is answered with those of its first word.
+pub const CALLS: [u8; 274] =
+    *b"probe CHANNEL CODE; restart; governor CHANNEL; datalink ROOM BYTES; lecom ROOM BYTES; love ROOM BYTES; lucid ROOM BYTES; save ROOM; load BYTES; request change IA ADDRESS BYTES; request bits IA ADDRESS MASKS / STATES; step ROOM BYTES; poke TABLE PLACE VALUE; peek TABLE; help";
+
+pub enum Dialect {
+    Datalink,
+    Lecom,
+    Love,
+    Lucid,
+}
+
+// A call of an entry of the card: card_calls.rt.
+pub enum CardCall {
+    Probe,
+    Restart,
+    Governor,
+    Frame(Dialect),
+}
+
+// A call of the image's entries: image_calls.rt.
+pub enum ImageCall {
+    Save,
+    Load,
+}
+
+// A call of the line master: exchange.rt.
+pub enum ExchangeCall {
+    Request,
+    Step,
+}
+
+// A call on the tables: table_calls.rt.
+pub enum TableCall {
+    Poke,
+    Peek,
+}
+
+// What a line asks: a call, by what it touches; or none, where it asks nothing, is too long to be read or has an unknown name.
+pub enum Call {
+    Nothing,
+    TooLong,
+    Unknown,
+    Card(CardCall),
+    Image(ImageCall),
+    Exchange(ExchangeCall),
+    Tables(TableCall),
+    Help,
+}
+
+// The calls on the tables, and `help`.
+fn table_call(name: &[u8]) -> Call {
+    if line::is_word(name, b"poke") {
+        return Call::Tables(TableCall::Poke);
+    }
+    if line::is_word(name, b"peek") {
+        return Call::Tables(TableCall::Peek);
+    }
+    if line::is_word(name, b"help") {
+        return Call::Help;
+    }
+    Call::Unknown
+}
+
+// The calls of the line master.
+fn exchange_call(name: &[u8]) -> Call {
+    if line::is_word(name, b"request") {
+        return Call::Exchange(ExchangeCall::Request);
+    }
+    if line::is_word(name, b"step") {
+        return Call::Exchange(ExchangeCall::Step);
+    }
+    table_call(name)
+}
+
+// The calls of the image's entries.
+fn image_call(name: &[u8]) -> Call {
+    if line::is_word(name, b"save") {
+        return Call::Image(ImageCall::Save);
+    }
+    if line::is_word(name, b"load") {
+        return Call::Image(ImageCall::Load);
+    }
+    exchange_call(name)
+}
+
+// A frame in a dialect.
+fn frame_call(name: &[u8]) -> Call {
+    if line::is_word(name, b"datalink") {
+        return Call::Card(CardCall::Frame(Dialect::Datalink));
+    }
+    if line::is_word(name, b"lecom") {
+        return Call::Card(CardCall::Frame(Dialect::Lecom));
+    }
+    if line::is_word(name, b"love") {
+        return Call::Card(CardCall::Frame(Dialect::Love));
+    }
+    if line::is_word(name, b"lucid") {
+        return Call::Card(CardCall::Frame(Dialect::Lucid));
+    }
+    image_call(name)
+}
+
+// The call of a name: those of the card here, the others group by group.
+pub fn call_of(name: &[u8]) -> Call {
+    if line::is_word(name, b"probe") {
+        return Call::Card(CardCall::Probe);
+    }
+    if line::is_word(name, b"restart") {
+        return Call::Card(CardCall::Restart);
+    }
+    if line::is_word(name, b"governor") {
+        return Call::Card(CardCall::Governor);
+    }
+    frame_call(name)
+}

@@ -1,0 +1,74 @@
+// The calls of the image's entries, as those of the card.
+use crate::arguments;
+use crate::call::ImageCall;
+use card::layout::MEMORY;
+use card::layout::PENDING;
+use card::layout::WORDS;
+use lines::ANSWER_MOST;
+use lines::BYTES_MOST;
+use lines::ROOM_MOST;
+use lines::UNREAD;
+use lines::line;
+use lines::text;
+ghost use Prim.Native.Nat.{_≤_, _<_};
+ghost use lib.ListN.{length};
+ghost use Rattle.lines.specs.Lent.{lineMost, answerMost};
+
+// save ROOM
+fn save(
+    words: &[u32; WORDS],
+    memory: &[u8; MEMORY],
+    pending: &[u8; PENDING],
+    s: &[u8],
+    out: &mut [u8; ANSWER_MOST],
+) -> usize
+    ensures { λ r. ⌜ r < answerMost ⌝ }
+{
+    let number = arguments::last_number(s, 0, ROOM_MOST as u32);
+    if !number.right {
+        return UNREAD;
+    }
+    let mut answer = [0u8; ROOM_MOST];
+    let room = number.value as usize;
+    let given = image::write_image(words, memory, pending, &mut answer[..room]);
+    text::tell(out, given.number, &answer, given.len)
+}
+
+// load BYTES
+fn load(
+    words: &mut [u32; WORDS],
+    memory: &[u8; MEMORY],
+    pending: &[u8; PENDING],
+    s: &[u8],
+    out: &mut [u8; ANSWER_MOST],
+) -> usize
+    requires { ⌜ length (now s) ≤ lineMost ⌝ }
+    ensures { λ r. ⌜ r < answerMost ⌝ }
+{
+    let mut f = [0u8; BYTES_MOST];
+    let bytes = line::read_bytes(s, 0, &mut f);
+    if bytes.next < s.len() {
+        return UNREAD;
+    }
+    let n = bytes.count;
+    let number = image::read_image(words, memory, pending, &f[..n]);
+    text::tell_number(out, number)
+}
+
+// A call of an entry of the image, with the words s after its name.
+pub fn run(
+    call: ImageCall,
+    words: &mut [u32; WORDS],
+    memory: &mut [u8; MEMORY],
+    pending: &mut [u8; PENDING],
+    s: &[u8],
+    out: &mut [u8; ANSWER_MOST],
+) -> usize
+    requires { ⌜ length (now s) ≤ lineMost ⌝ }
+    ensures { λ r. ⌜ r < answerMost ⌝ }
+{
+    match call {
+        ImageCall::Save => save(words, memory, pending, s, out),
+        ImageCall::Load => load(words, memory, pending, s, out),
+    }
+}
