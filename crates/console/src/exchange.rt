@@ -58,11 +58,19 @@ struct Sent {
     states: usize,
 }
 
+// What holds of a request of a kind: the first for bytes, the second for bits.
+fn by_kind(kind: Kind, change: bool, bits: bool) -> bool {
+    match kind {
+        Kind::Bytes => change,
+        Kind::Bits => bits,
+    }
+}
+
 // BYTES, or MASKS / STATES, which go to two buffers. Where a line ends after its BYTES there are no states to read.
 fn read_sent(
     s: &[u8],
     at: usize,
-    is_bits: bool,
+    kind: Kind,
     to: &mut [u8; BYTES_MOST],
     back: &mut [u8; BYTES_MOST],
 ) -> Sent
@@ -78,7 +86,7 @@ fn read_sent(
     let change = from == s.len();
     let bits = divided & (states.next == s.len());
     Sent {
-        right: (change & !is_bits) | (bits & is_bits),
+        right: by_kind(kind, change, bits),
         sent: sent.count,
         states: states.count,
     }
@@ -87,7 +95,6 @@ fn read_sent(
 // The kind of a request by its first word: whether there is one, which, and where the next word starts.
 struct Form {
     right: bool,
-    is_bits: bool,
     kind: Kind,
     next: usize,
 }
@@ -101,14 +108,12 @@ fn read_form(s: &[u8]) -> Form
     if line::is_word(&s[..end], b"bits") {
         return Form {
             right: true,
-            is_bits: true,
             kind: Kind::Bits,
             next: word.next,
         };
     }
     Form {
         right: line::is_word(&s[..end], b"change"),
-        is_bits: false,
         kind: Kind::Bytes,
         next: word.next,
     }
@@ -122,8 +127,8 @@ fn read_request(s: &[u8], to: &mut [u8; BYTES_MOST], back: &mut [u8; BYTES_MOST]
     let form = read_form(s);
     let ia = line::read_number(s, form.next, u32::MAX);
     let address = line::read_number(s, ia.next, u32::MAX);
-    let got = read_sent(s, address.next, form.is_bits, to, back);
     let kind = form.kind;
+    let got = read_sent(s, address.next, kind, to, back);
     Exchange {
         asked: form.right & (ia.right & (address.right & got.right)),
         kind,

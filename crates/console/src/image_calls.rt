@@ -59,8 +59,8 @@ fn load(
 pub fn run(
     call: ImageCall,
     words: &mut [u32; WORDS],
-    memory: &mut [u8; MEMORY],
-    pending: &mut [u8; PENDING],
+    memory: &[u8; MEMORY],
+    pending: &[u8; PENDING],
     s: &[u8],
     out: &mut [u8; ANSWER_MOST],
 ) -> usize

@@ -89,39 +89,54 @@ fn run(
     Answer { len, exchange: e }
 }
 
-// The line of what is wrong with a line that could not be read.
-fn refuse(call: Call, name: &[u8], out: &mut [u8; ANSWER_MOST]) -> usize
+// The line of what is wrong with a line that could not be read. Its name stands from one place of the line to another.
+fn refuse(call: Call, line: &[u8], from: usize, stop: usize, out: &mut [u8; ANSWER_MOST]) -> usize
+    requires { ⌜ (from ≤ stop) × (stop ≤ length (now line)) ⌝ }
     ensures { λ r. ⌜ r < answerMost ⌝ }
 {
     match call {
         Call::TooLong => text::put_words(out, 0, b"error line longer than 32768 bytes"),
         Call::Unknown => text::put_words(out, 0, b"error unknown call"),
-        _ => usage::tell_expected(out, &CALLS, name),
+        _ => usage::tell_expected(out, &CALLS, &line[from..stop]),
     }
 }
 
 // How long the answer line is: a call that could be made has written it; else it says what is wrong.
-fn say(call: Call, name: &[u8], len: usize, out: &mut [u8; ANSWER_MOST]) -> usize
-    requires { ⌜ len < answerMost ⌝ }
+fn say(
+    call: Call,
+    line: &[u8],
+    from: usize,
+    stop: usize,
+    len: usize,
+    out: &mut [u8; ANSWER_MOST],
+) -> usize
+    requires { ⌜ (from ≤ stop) × ((stop ≤ length (now line)) × (len < answerMost)) ⌝ }
     ensures { λ r. ⌜ r < answerMost ⌝ }
 {
     if len != UNREAD {
         return len;
     }
-    refuse(call, name, out)
+    refuse(call, line, from, stop, out)
 }
 
 // Writes the answer line with its line feed, and none where nothing is asked: whether it could be written.
-fn tell(call: Call, name: &[u8], len: usize, out: &mut [u8; ANSWER_MOST]) -> bool
-    requires { ⌜ len < answerMost ⌝ }
+fn tell(
+    call: Call,
+    line: &[u8],
+    from: usize,
+    stop: usize,
+    len: usize,
+    out: &mut [u8; ANSWER_MOST],
+) -> bool
+    requires { ⌜ (from ≤ stop) × ((stop ≤ length (now line)) × (len < answerMost)) ⌝ }
 {
     if let Call::Nothing = call {
         return true;
     }
-    let n = say(call, name, len, out);
+    let n = say(call, line, from, stop, len, out);
     out[n] = LINE_FEED;
-    let line: &[u8] = out;
-    io::write_all(STDOUT_FILENO, &line[..n + 1])
+    let answer: &[u8] = out;
+    io::write_all(STDOUT_FILENO, &answer[..n + 1])
 }
 
 // Reads on, and answers the line if it is whole.
@@ -145,8 +160,6 @@ pub fn go_on(
     let line: &[u8] = text;
     let question = question::read_line(line, input.n, input.whole);
     let call = question.call;
-    let from = question.from;
-    let stop = question.stop;
     let next = question.next;
     let end = question.end;
     let did = run(
@@ -160,7 +173,7 @@ pub fn go_on(
         &line[next..end],
         out,
     );
-    let written = tell(call, &line[from..stop], did.len, out);
+    let written = tell(call, line, question.from, question.stop, did.len, out);
     let exchange = did.exchange;
     State {
         going: written & !input.over,
