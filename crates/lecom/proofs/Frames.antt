@@ -14,14 +14,14 @@ use Rattle.wire.specs.Choose.{choose}
 use Rattle.wire.specs.Word.{minus}
 use Rattle.wire.proofs.Tests.{and-true, or-true-right}
 use Rattle.wire.proofs.Cases.{by-choice}
-use Rattle.figures.specs.Figure.{decimal, allFigures}
+use Rattle.figures.specs.Figure.{decimal, upperHex, noByte, allFigures}
 use Rattle.figures.specs.Decimal.{valueOf}
 use Rattle.figures.specs.Signed.{minusChar, withSign, figuresOf, parsedOf}
 use Rattle.figures.specs.declared.Parsed.{Parsed}
 use Rattle.figures.proofs.Characters.{pair-at-most}
 use Rattle.card.specs.Numbers.{frameForm, checkCharacter, rangeUnknown, valueOutside, readOnly}
 use Rattle.card.specs.Fitness.{inSpan, registerMost}
-use Rattle.lecom.specs.Form.{lengthRight, standardHex, extendedHex, dataLeast, dataMost, closing, lastRegister, firstProbe, lastProbe, activate, store, namedBy}
+use Rattle.lecom.specs.Form.{lengthRight, startAt, standardHex, extendedHex, dataLeast, dataMost, closing, lastRegister, firstProbe, lastProbe, activate, store, namedBy}
 use Rattle.lecom.specs.Frame.{isWrite, codeAt, isExtended, hexAt, codeEnd, sizeRight, pairIn, xorFrom, codeNumber, subcodeRight, namedIn, dataOf, dataRead, valueIn, orderIn, asked}
 use Rattle.lecom.specs.Stages.{Has, Sound}
 use Rattle.lecom.specs.Stages.{heard}
@@ -32,7 +32,7 @@ use Rattle.lecom.specs.declared.frame.Order.the-variants.{Silent, Refuse
 
 -- the places of a frame's code, in order
 pub record Bounds (f : List ℕ) : Type 0 where
-  pub code-at : codeAt f ≤ 4
+  pub code-at : codeAt f ≤ startAt + 1
   pub hex-at : (codeAt f ≤ hexAt f) × (hexAt f ≤ codeAt f + 1)
   pub code-end : (hexAt f + standardHex ≤ codeEnd f) × (codeEnd f ≤ hexAt f + extendedHex)
 
@@ -40,9 +40,9 @@ pub bounds : (f : List ℕ) → Bounds f
 unfolding codeAt hexAt codeEnd
 bounds f =
     record {
-      code-at = by-choice (λ (n : ℕ). n ≤ 4) (isWrite f) _ _ (λ _. omega arith) (λ _. omega arith);
+      code-at = by-choice (λ (n : ℕ). n ≤ startAt + 1) (isWrite f) _ _ (λ _. omega arith) (λ _. omega arith);
       hex-at = by-choice (λ (n : ℕ). (codeAt f ≤ n) × (n ≤ codeAt f + 1)) (isExtended f) _ _ (λ _. omega arith) (λ _. omega arith);
-      code-end = by-choice (λ (n : ℕ). (hexAt f + 2 ≤ n) × (n ≤ hexAt f + 6)) (isExtended f) _ _ (λ _. omega arith) (λ _. omega arith);
+      code-end = by-choice (λ (n : ℕ). (hexAt f + standardHex ≤ n) × (n ≤ hexAt f + extendedHex)) (isExtended f) _ _ (λ _. omega arith) (λ _. omega arith);
     }
 
 -- an extended code has six hex characters
@@ -51,9 +51,9 @@ unfolding codeEnd choose
 extended-end f h = rw h
 
 -- two hex characters are a byte, or the mark for none
-pub pair-most : (f : List ℕ) (at : ℕ) → pairIn f at ≤ 256
+pub pair-most : (f : List ℕ) (at : ℕ) → pairIn f at ≤ noByte
 unfolding pairIn
-pair-most f at = pair-at-most 16 (getD f at 0) (getD f (at + 1) 0)
+pair-most f at = pair-at-most upperHex (getD f at 0) (getD f (at + 1) 0)
 
 -- a frame of the right size holds its whole code
 pub size-holds : (f : List ℕ) → sizeRight f ≡ true → codeEnd f + 1 ≤ length f

@@ -13,17 +13,17 @@ use Rattle.figures.proofs.Texts.{text-length}
 use Rattle.card.specs.Numbers.{answered, done}
 use Rattle.card.specs.Reply.{Wrote, Told, GaveWords, leaving}
 use Rattle.card.proofs.Replies.{wrote-none, wrote-one, wrote-set, wrote-put, told-as, gave-leaving}
-use Rattle.lecom.specs.Form.{stx, etx}
+use Rattle.lecom.specs.Form.{stx, etx, extendedHex}
 use Rattle.lecom.specs.Frame.{collective, codeAt, codeEnd, codeOf, bccOf}
 use Rattle.lecom.specs.Answer.{valueBody, valueBytes, refusalBytes, quietly, doneBy, refusedBy}
 use Rattle.lecom.proofs.Frames.{bounds}
 
--- a code is as long as its places are apart, and has at most seven characters
+-- a code is as long as its places are apart, at most "!" and six characters
 pub code-length : (f : List ℕ) → codeEnd f ≤ length f → length (codeOf f) ≡ codeEnd f - codeAt f
 unfolding codeOf
 code-length f h = simp (length-take, length-drop) (omega (arith, bounds f))
 
-pub code-most : (f : List ℕ) → codeEnd f ≤ length f → length (codeOf f) ≤ 7
+pub code-most : (f : List ℕ) → codeEnd f ≤ length f → length (codeOf f) ≤ 1 + extendedHex
 code-most f h = omega (arith, bounds f, code-length f h)
 
 -- STX, and the code copied after it
@@ -75,5 +75,5 @@ unfolding refusedBy
 refused-sent f number out h w = told-as _ _ (no _ _ _ _ h refl) (record { numbered = refl; wrote = w })
 
 -- a refusal with no byte
-pub gave-silent : (words : List ℕ) (number : ℕ) (out : List ℕ) → GaveWords (leaving words (quietly number)) out number 0 words out
-gave-silent words number out = gave-leaving words (quietly number) out (record { numbered = refl; wrote = wrote-none out })
+pub gave-quietly : (words : List ℕ) (number : ℕ) (out : List ℕ) → GaveWords (leaving words (quietly number)) out number 0 words out
+gave-quietly words number out = gave-leaving words (quietly number) out (record { numbered = refl; wrote = wrote-none out })

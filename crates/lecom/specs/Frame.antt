@@ -94,9 +94,13 @@ bccRight f = choose (isWrite f) (eqb (bccOf (part f (codeAt f) (length f - 1))) 
 unfoldable pub pairIn : List ℕ → ℕ → ℕ
 pairIn f at = pairByte upperHex (getD f at 0) (getD f (at + 1) 0)
 
+-- the number that four hex characters are
+unfoldable pub quadIn : List ℕ → ℕ → ℕ
+quadIn f at = byteValues * pairIn f at + pairIn f (at + standardAt)
+
 -- a code's number: that of its two hex characters, or of an extended code's first four; so "!00" before a standard code reaches the same register
 unfoldable pub codeNumber : List ℕ → ℕ
-codeNumber f = choose (isExtended f) (byteValues * pairIn f (hexAt f) + pairIn f (hexAt f + standardAt)) (pairIn f (hexAt f))
+codeNumber f = choose (isExtended f) (quadIn f (hexAt f)) (pairIn f (hexAt f))
 
 -- an extended code's last two characters are 00
 unfoldable pub subcodeRight : List ℕ → Bool

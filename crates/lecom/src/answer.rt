@@ -136,7 +136,7 @@ fn read_probe(f: &[u8], outline: Outline, out: &mut [u8], code: u8) -> Outcome
     tell(f, outline, out, tenths.word())
 }
 
-// Answers a read.
+// Answers a read. A frame that names nothing was refused; so would its read be.
 fn read(
     words: &[u32],
     memory: &[u8],
@@ -157,7 +157,7 @@ fn read(
     }
 }
 
-// Carries out a write of a value that what is named takes.
+// Carries out a write of a value that what is named takes; a probe takes none.
 fn write(words: &mut [u32], named: Named, value: u32)
     requires { ⌜ Has named × (length (now words) ≡ wordCount) ⌝ }
     ensures { λ _. ⌜ now (words .exit) ≡ written (now (words .entry)) named value ⌝ }

@@ -20,7 +20,7 @@ ghost use lib.ListN.{length, getD};
 ghost use Rattle.wire.specs.Choose.{choose};
 ghost use Rattle.card.specs.Numbers.{valueOutside, readOnly};
 ghost use Rattle.lecom.specs.Form.{shortest};
-ghost use Rattle.lecom.specs.Frame.{reaches, codeEnd, sizeRight, endRight, codeRight, bccOf, bccRight, pairIn, namedIn, writeRight, valueRight, valueIn, dataRight, orderIn, unless, asked};
+ghost use Rattle.lecom.specs.Frame.{reaches, codeEnd, sizeRight, endRight, codeRight, bccOf, bccRight, pairIn, quadIn, namedIn, writeRight, valueRight, valueIn, dataRight, orderIn, unless, asked};
 ghost use Rattle.lecom.specs.Stages.{Outlines, heard};
 
 // What an address's first figure counts.
@@ -168,20 +168,27 @@ fn pair_in(f: &[u8], at: usize) -> u32
     figures::pair_byte(f[at], f[at + 1], UPPER_HEX)
 }
 
+// The number that four hex characters are.
+fn quad_in(f: &[u8], at: usize) -> u32
+    requires { ⌜ at + 4 ≤ length (now f) ⌝ }
+    ensures { λ r. ⌜ r ≡ quadIn (now (f .entry)) at ⌝ }
+{
+    BYTE_VALUES * pair_in(f, at) + pair_in(f, at + Lecom::STANDARD)
+}
+
 // What the frame's code names.
 fn named_in(f: &[u8], outline: Outline) -> Named
     requires { ⌜ (codeEnd (now f) ≤ length (now f)) × Outlines (now f) outline ⌝ }
     ensures { λ r. ⌜ r ≡ namedIn (now (f .entry)) ⌝ }
 {
     let at = outline.hex;
-    let first = pair_in(f, at);
     if !outline.extended {
-        return form::named_by(first);
+        return form::named_by(pair_in(f, at));
     }
     if pair_in(f, at + Lecom::SUBCODE) != 0 {
         return Named::Nothing;
     }
-    form::named_by(BYTE_VALUES * first + pair_in(f, at + Lecom::STANDARD))
+    form::named_by(quad_in(f, at))
 }
 
 // A write of what its data were read as.

@@ -1,5 +1,6 @@
 -- `lecom::answer::acknowledge` meets its contract, test by test. Assumes nothing.
 use Rattle.card.proofs.Replies.{wrote-one}
+use Rattle.lecom.specs.Form.{ack}
 use Rattle.lecom.proofs.Writes.{done-quiet, done-sent}
 use borrow.Author.Needs.{needs}
 use Rattle.lecom.proofs.answer.acknowledge.Statement.{statement}
@@ -15,7 +16,7 @@ same-length : tie.Need-same-length
 same-length c = search needs
 
 returns-2 : tie.Need-returns-2
-returns-2 c = done-sent _ _ _ (c .if1 .left) (wrote-one 6 (c .before .args .out .now) (search needs))
+returns-2 c = done-sent _ _ _ (c .if1 .left) (wrote-one ack (c .before .args .out .now) (search needs))
 
 pub acknowledge-spec : {M : Type 1} → statement M
 acknowledge-spec = tie.close (tie.spec returns slice-write-out same-length returns-2)

@@ -3,7 +3,7 @@ use mathlib.Core.Path.{subst}
 use Rattle.card.proofs.Replies.{gave-leaving}
 use Rattle.lecom.specs.Stages.{Sound}
 use Rattle.lecom.specs.Answer.{obeyed}
-use Rattle.lecom.proofs.Writes.{gave-silent}
+use Rattle.lecom.proofs.Writes.{gave-quietly}
 use borrow.Author.Needs.{needs}
 use Rattle.lecom.proofs.answer.obey.Statement.{statement}
 use Rattle.lecom.proofs.answer.obey.Tie as tie
@@ -43,7 +43,7 @@ acknowledge-requires c κs = search needs
 
 returns : tie.Need-returns
 unfolding obeyed
-returns c = rw (c .before .order .given .1) (gave-silent _ _ _)
+returns c = rw (c .before .order .given .1) (gave-quietly _ _ _)
 
 same-length : tie.Need-same-length
 same-length c = search needs

@@ -6,6 +6,7 @@ use lib.ListN.{length, length-take, length-drop}
 use mathlib.Core.Path.{ap}
 use native.Mathlib.Omega.{arith}
 use Rattle.wire.specs.Choose.{choose}
+use Rattle.lecom.specs.Form.{dataLeast, dataMost, closing}
 use Rattle.lecom.specs.Frame.{writeRight, dataOf, dataRead, dataRight, orderIn}
 use Rattle.lecom.proofs.Frames.{write-holds}
 use borrow.Author.Needs.{needs}
@@ -28,7 +29,7 @@ returns-2 c =
     simp (told-yes (start .pre .1 .0 .writes) (c .before .before .if1 .left), ← (start .pre .1 .1), told-no (c .before .is-writable .ensures) (c .if2 .taken))
 
 -- the data stand between code and ETX, and are at most twelve characters
-holds : (c : tie.Else2) → (c .before .before .before .before .before .args .outline .end + 3 ≤ length (c .before .before .before .before .before .args .f .now)) × (length (c .before .before .before .before .before .args .f .now) ≤ c .before .before .before .before .before .args .outline .end + 14)
+holds : (c : tie.Else2) → (c .before .before .before .before .before .args .outline .end + dataLeast + closing ≤ length (c .before .before .before .before .before .args .f .now)) × (length (c .before .before .before .before .before .args .f .now) ≤ c .before .before .before .before .before .args .outline .end + dataMost + closing)
 holds c =
     let start = c .before .before .before .before .before in
     omega (arith, start .pre .1 .0 .ends, write-holds (start .args .f .now) (told-yes (start .pre .1 .0 .writes) (c .before .before .if1 .left)) (start .pre .0))
