@@ -13,7 +13,7 @@ wrapping-add-u32-requires-3 : tie.Need-wrapping-add-u32-requires-3
 wrapping-add-u32-requires-3 c κs = search needs
 
 returns : tie.Need-returns
-returns c = cc (c .before .before .wrapping-add-u32 .ensures, c .before .wrapping-add-u322 .ensures, c .wrapping-add-u323 .ensures)
+returns c = rw (c .before .wrapping-add-u322 .ensures, c .wrapping-add-u323 .ensures, c .before .before .wrapping-add-u32 .ensures)
 
 pub is-beyond-spec : {M : Type 1} → statement M
 is-beyond-spec =
