@@ -21,9 +21,8 @@ use Rattle.card.specs.Layout.{Card, kindAt}
 use Rattle.card.specs.Change.{noChange, inMemory, namesReadOnly}
 use Rattle.card.specs.Fitness.{fit}
 use Rattle.card.specs.Reply.{Reply, silent, shell, roomLeast}
-use Rattle.datalink.specs.Form.{frameNumAt, frameDataAt}
+use Rattle.datalink.specs.Form.{frameNumAt, frameDataAt, framed}
 use Rattle.datalink.specs.Frame.{asked}
-use Rattle.datalink.specs.Form.{framed}
 use Rattle.datalink.specs.Answer.{response, iaOf, shown, bodyOf, pended, applied, echoed, interrogated, acknowledged, obeyed, datalinkReply}
 use Rattle.datalink.specs.declared.frame.Order.{Order}
 use Rattle.datalink.specs.declared.frame.Order.the-variants.{Silent, Interrogate, Change, Acknowledge}

@@ -23,8 +23,7 @@ use Rattle.card.specs.Numbers.{frameForm, checkCharacter, rangeUnknown, valueOu
 use Rattle.card.specs.Fitness.{inSpan, registerMost}
 use Rattle.lecom.specs.Form.{lengthRight, startAt, standardHex, extendedHex, dataLeast, dataMost, closing, lastRegister, firstProbe, lastProbe, activate, store, namedBy}
 use Rattle.lecom.specs.Frame.{isWrite, codeAt, isExtended, hexAt, codeEnd, sizeRight, pairIn, xorFrom, codeNumber, subcodeRight, namedIn, dataOf, dataRead, valueIn, orderIn, asked}
-use Rattle.lecom.specs.Stages.{Has, Sound}
-use Rattle.lecom.specs.Stages.{heard}
+use Rattle.lecom.specs.Stages.{Has, Sound, heard}
 use Rattle.lecom.specs.declared.frame.Order.{Order}
 use Rattle.lecom.specs.declared.frame.Order.the-variants.{Silent, Refused}
 

@@ -25,8 +25,7 @@ ghost use Rattle.card.specs.Probe.{readingOf};
 ghost use Rattle.card.specs.Reply.{Wrote, GaveWords, roomLeast, Told};
 ghost use Rattle.lecom.specs.Form.{stx, ack};
 ghost use Rattle.lecom.specs.Frame.{collective, codeEnd, codeOf};
-ghost use Rattle.lecom.specs.Stages.{Has, Sound};
-ghost use Rattle.lecom.specs.Stages.{Outlines};
+ghost use Rattle.lecom.specs.Stages.{Has, Sound, Outlines};
 ghost use Rattle.lecom.specs.Answer.{valueBytes, unknownBytes, refusalBytes, doneBy, refusedBy, probeAnswer, readAnswer, written, obeyed};
 
 // Writes STX and the code as received.

@@ -15,8 +15,7 @@ use Rattle.wire.specs.Buffer.{overlay, same, part}
 use Rattle.wire.specs.Sum.{sumOf, byteValues}
 use Rattle.wire.proofs.Buffers.{overlay-set, part-append}
 use Rattle.card.specs.Layout.{dataMost}
-use Rattle.datalink.specs.Form.{start, framed, responseBits, changeBitsBits}
-use Rattle.datalink.specs.Form.{secondAt, frameDataAt}
+use Rattle.datalink.specs.Form.{start, framed, responseBits, changeBitsBits, secondAt, frameDataAt}
 use Rattle.datalink.specs.Answer.{response}
 use Rattle.datalink.proofs.Writes.{framed-length}
 use Rattle.master.specs.Request.{Ask, Request, askOf, requestOf, namedBy, namedMost, paired, asAsked}

@@ -6,8 +6,7 @@ use lib.Dec.{eqb}
 use lib.ListN.{length, getD}
 use Rattle.wire.specs.Buffer.{part, same}
 use Rattle.wire.specs.Sum.{byteValues}
-use Rattle.datalink.specs.Form.{start, framed, interrogateBits, changeBitsBits, changeCommandBits, acknowledgeBits}
-use Rattle.datalink.specs.Form.{frameDataAt}
+use Rattle.datalink.specs.Form.{start, framed, interrogateBits, changeBitsBits, changeCommandBits, acknowledgeBits, frameDataAt}
 use Rattle.datalink.specs.Answer.{response}
 use Rattle.master.specs.Request.{Ask, Request, namedBy, asAsked}
 use Rattle.master.specs.Request.Ask.{bytes, bits}

@@ -6,7 +6,6 @@ use borrow.Author.Tests.{ne-eqb}
 use Prim.Native.Nat.{ℕ}
 use mathlib.Core.Path.{ap}
 use Rattle.card.specs.Probe.{readingOf, tenthsOf}
-use Rattle.wire.proofs.Cases.{cases}
 use borrow.Author.Needs.{needs}
 use Rattle.card.proofs.probe.read_code.Statement.{statement}
 use Rattle.card.proofs.probe.read_code.Tie as tie
