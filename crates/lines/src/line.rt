@@ -7,6 +7,7 @@ use figures::NO_BYTE;
 ghost use mathlib.Core.Path.{_≡_};
 ghost use Prim.Native.Nat.{_+_, _*_, _≤_, _<_};
 ghost use lib.ListN.{length};
+ghost use Rattle.wire.specs.Buffer.{same};
 ghost use Rattle.figures.specs.Figure.{noByte};
 ghost use Rattle.lines.specs.Lent.{lineMost};
 
@@ -82,26 +83,14 @@ pub fn read_word(s: &[u8], at: usize) -> Word
     Word { end, next }
 }
 
-// Whether s starts with the bytes of name.
-fn starts_with(s: &[u8], name: &[u8]) -> bool
-    requires { ⌜ length (now name) ≤ length (now s) ⌝ }
-{
-    let mut i = 0;
-    while i < name.len() {
-        if s[i] != name[i] {
-            return false;
-        }
-        i += 1;
-    }
-    true
-}
-
 // Whether a word is a name.
-pub fn is_word(word: &[u8], name: &[u8]) -> bool {
+pub fn is_word(word: &[u8], name: &[u8]) -> bool
+    ensures { λ r. ⌜ r ≡ same (now (word .entry)) (now (name .entry)) ⌝ }
+{
     if word.len() != name.len() {
         return false;
     }
-    starts_with(word, name)
+    wire::is_same(word, name)
 }
 
 // The value of a word of decimal figures, or NO_NUMBER.

@@ -120,17 +120,7 @@ same-one : (x y : ℕ) → same (x ∷ []) (y ∷ []) ≡ eqb x y
 unfolding same
 same-one x y = and-true-right (eqb x y)
 
--- compared from the front: ok tells of what was compared, and one element more
-pub same-next : (ok : Bool) (xs ys : List ℕ) (i : ℕ) → i < length xs → i < length ys
-    → (ok && same (drop i xs) (drop i ys)) ≡ ((ok && eqb (getD xs i 0) (getD ys i 0)) && same (drop (suc i) xs) (drop (suc i) ys))
-unfolding same
-same-next ok xs ys i h k = rw (drop-cons xs i 0 h, drop-cons ys i 0 k) (and-assoc ok (eqb (getD xs i 0) (getD ys i 0)) (same (drop (suc i) xs) (drop (suc i) ys)))
-
-pub same-end : (ok : Bool) (xs ys : List ℕ) (i : ℕ) → length xs ≤ i → length ys ≤ i → (ok && same (drop i xs) (drop i ys)) ≡ ok
-unfolding same
-same-end ok xs ys i h k = rw (drop-of-length-le xs h, drop-of-length-le ys k) (and-true-right ok)
-
--- the same with masks and states by turns
+-- compared from the front, with masks and states by turns
 pub turns-next : (ok : Bool) (shown masks states : List ℕ) (i : ℕ) → length masks ≡ length states → length shown ≡ 2 * length masks → i < length masks
     → (ok && same (drop (2 * i) shown) (pairs (drop i masks) (drop i states)))
     ≡ ((ok && (eqb (getD shown (2 * i) 0) (getD masks i 0) && eqb (getD shown (2 * i + 1) 0) (getD states i 0)))

@@ -15,20 +15,6 @@ ghost use Rattle.master.specs.Request.{askOf, requestOf, paired, address
 ghost use Rattle.master.specs.Accepted.{Accepted};
 ghost use Rattle.master.specs.Frames.{pairs, dataOf, isEcho, responds, allAsked, confirms};
 
-// Whether two slices of one length hold the same bytes.
-fn is_same(a: &[u8], b: &[u8]) -> bool
-    requires { ⌜ length (now a) ≡ length (now b) ⌝ }
-    ensures { λ r. ⌜ r ≡ same (now (a .entry)) (now (b .entry)) ⌝ }
-{
-    let mut ok = true;
-    let mut i = 0;
-    while i < a.len() {
-        ok = ok & (a[i] == b[i]);
-        i += 1;
-    }
-    ok
-}
-
 // Whether bytes shown are masks and states by turns.
 fn is_by_turns(shown: &[u8], masks: &[u8], states: &[u8]) -> bool
     requires { ⌜ (length (now masks) ≡ length (now states)) × (length (now shown) ≡ 2 * length (now masks)) ⌝ }
@@ -64,7 +50,7 @@ fn is_data(kind: Kind, sent: &[u8], states: &[u8], shown: &[u8]) -> bool
     ensures { λ r. ⌜ r ≡ same (now (shown .entry)) (dataOf (askOf kind (now (sent .entry)) (now (states .entry)))) ⌝ }
 {
     match kind {
-        Kind::Bytes => is_same(shown, sent),
+        Kind::Bytes => wire::is_same(shown, sent),
         Kind::Bits => is_by_turns(shown, sent, states),
     }
 }
@@ -86,7 +72,7 @@ fn is_response(answer: &[u8], ia: u32, num: usize, address: u32) -> bool
         (address % BYTE_VALUES) as u8,
         (address / BYTE_VALUES) as u8,
     ];
-    if !is_same(&answer[..Datalink::DATA], &head) {
+    if !wire::is_same(&answer[..Datalink::DATA], &head) {
         return false;
     }
     answer[last] == wire::sum(&answer[Datalink::SECOND..last])

@@ -4,7 +4,7 @@ ghost use mathlib.Core.Path.{_≡_};
 ghost use mathlib.Core.Logic.{_⊎_};
 ghost use Prim.Native.Nat.{_+_, _≤_};
 ghost use lib.ListN.{length};
-ghost use Rattle.wire.specs.Buffer.{put, part};
+ghost use Rattle.wire.specs.Buffer.{put, part, same};
 ghost use Rattle.wire.specs.Sum.{sumOf};
 
 // How many values a byte has.
@@ -21,6 +21,20 @@ pub fn sum(s: &[u8]) -> u8
         i += 1;
     }
     sum
+}
+
+// Whether two slices of one length hold the same bytes. No early exit: so the loop runs on several bytes at once.
+pub fn is_same(a: &[u8], b: &[u8]) -> bool
+    requires { ⌜ length (now a) ≡ length (now b) ⌝ }
+    ensures { λ r. ⌜ r ≡ same (now (a .entry)) (now (b .entry)) ⌝ }
+{
+    let mut ok = true;
+    let mut i = 0;
+    while i < a.len() {
+        ok = ok & (a[i] == b[i]);
+        i += 1;
+    }
+    ok
 }
 
 // Copies all of src into dst from index at on.

@@ -1,14 +1,14 @@
--- `master::answer::is_same` meets its contract. The invariant: ok tells of the first i bytes. Assumes nothing.
+-- `wire::is_same` meets its contract. The invariant: ok tells of the first i bytes. Assumes nothing.
 use mathlib.Core.Bool.{_&&_}
 use mathlib.Core.Path.{_≡_, refl, sym, _∙_}
 use native.Mathlib.Omega.{arith}
 use Prim.Native.Nat.{_≤_, _-_}
 use native.Mathlib.Numerals.{add-one}
 use lib.ListN.{length, drop}
 use Rattle.wire.specs.Buffer.{same}
-use Rattle.master.proofs.Frames.{same-next, same-end}
-use Rattle.master.proofs.answer.is_same.Statement.{statement}
-use Rattle.master.proofs.answer.is_same.Tie as tie
+use Rattle.wire.proofs.Same.{same-next, same-end}
+use Rattle.wire.proofs.is_same.Statement.{statement}
+use Rattle.wire.proofs.is_same.Tie as tie
 
 abbrev Inv-loop : tie.InvT-loop
 Inv-loop a b ok₀ i₀ ok i = (i ≤ length a) × (same a b ≡ (ok && same (drop i a) (drop i b)))
