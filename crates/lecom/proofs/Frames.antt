@@ -22,8 +22,8 @@ use Rattle.figures.proofs.Characters.{pair-at-most}
 use Rattle.card.specs.Numbers.{frameForm, checkCharacter, rangeUnknown, valueOutside, readOnly}
 use Rattle.card.specs.Fitness.{inSpan, registerMost}
 use Rattle.lecom.specs.Form.{lengthRight, startAt, standardHex, extendedHex, dataLeast, dataMost, closing, lastRegister, firstProbe, lastProbe, activate, store, namedBy}
-use Rattle.lecom.specs.Frame.{isWrite, codeAt, isExtended, hexAt, codeEnd, sizeRight, pairIn, xorFrom, codeNumber, subcodeRight, namedIn, dataOf, dataRead, valueIn, orderIn, asked}
-use Rattle.lecom.specs.Stages.{Has, Sound, heard}
+use Rattle.lecom.specs.Frame.{isWrite, codeAt, isExtended, hexAt, codeEnd, sizeRight, pairIn, xorFrom, codeNumber, subcodeRight, namedIn, dataOf, dataRead, valueIn, ordered, asked}
+use Rattle.lecom.specs.Stages.{Has, Sound, orderHere}
 use Rattle.lecom.specs.declared.frame.Order.{Order}
 use Rattle.lecom.specs.declared.frame.Order.the-variants.{Silent, Refused}
 
@@ -139,9 +139,9 @@ module _ (f : List ℕ) where
   or-refused : (t : Bool) (o : Order) (number : ℕ) → (number ≡ rangeUnknown → codeEnd f ≤ length f) → (t ≡ true → Sound f o) → Sound f (choose t o (Refused number))
   or-refused t o number k h = by-choice (Sound f) t o (Refused number) h (λ _. k)
 
-  heard-sound : Sound f (heard f)
-  unfolding heard orderIn
-  heard-sound =
+  here-sound : Sound f (orderHere f)
+  unfolding orderHere ordered
+  here-sound =
       or-refused (sizeRight f) _ frameForm (λ e. omega arith)
       (λ s.
       let k : codeEnd f ≤ length f = omega (arith, size-holds f s) in
@@ -154,6 +154,6 @@ module _ (f : List ℕ) where
       (λ _. by-choice (Sound f) (isWrite f) _ _ (λ _. (frame-has f, data-range f)) (λ _. (k, frame-has f)))))))))
 
   pub asked-sound : (address : ℕ) → Sound f (asked address f)
-  unfolding asked heard
+  unfolding asked orderHere
   asked-sound address =
-      or-silent (lengthRight (length f)) _ _ (λ _. or-silent _ _ _ (λ _. or-silent _ _ _ (λ _. or-silent _ _ _ (λ _. heard-sound))))
+      or-silent (lengthRight (length f)) _ _ (λ _. or-silent _ _ _ (λ _. or-silent _ _ _ (λ _. or-silent _ _ _ (λ _. here-sound))))

@@ -140,8 +140,8 @@ unfoldable pub dataRight : List ℕ → Bool
 dataRight f = choose (isWrite f) (valueRight (namedIn f) (dataRead f)) true
 
 -- what a frame that passed asks
-unfoldable pub orderIn : List ℕ → Order
-orderIn f = choose (isWrite f) (Write (namedIn f) (valueIn (dataRead f))) (Read (namedIn f))
+unfoldable pub ordered : List ℕ → Order
+ordered f = choose (isWrite f) (Write (namedIn f) (valueIn (dataRead f))) (Read (namedIn f))
 
 -- a test, the number that refuses a frame where it fails, and what comes after it: `silently` with no byte on the wire
 abbrev pub silently : Bool → ℕ → Order → Order
@@ -165,4 +165,4 @@ asked address f =
     (unless (codeKnown f) rangeUnknown
     (unless (writeRight f) readOnly
     (unless (dataRight f) valueOutside
-    (orderIn f)))))))))))
+    (ordered f)))))))))))

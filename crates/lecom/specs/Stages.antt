@@ -9,7 +9,7 @@ use Rattle.wire.specs.Word.{minus}
 use Rattle.card.specs.Layout.{registers, channels}
 use Rattle.card.specs.Fitness.{inSpan, registerMost}
 use Rattle.card.specs.Numbers.{frameForm, checkCharacter, rangeUnknown, valueOutside, readOnly}
-use Rattle.lecom.specs.Frame.{collective, isWrite, isExtended, codeAt, hexAt, codeEnd, unless, sizeRight, endRight, codeRight, bccRight, codeKnown, writeRight, dataRight, orderIn}
+use Rattle.lecom.specs.Frame.{collective, isWrite, isExtended, codeAt, hexAt, codeEnd, unless, sizeRight, endRight, codeRight, bccRight, codeKnown, writeRight, dataRight, ordered}
 use Rattle.lecom.specs.declared.form.Named.{Named}
 use Rattle.lecom.specs.declared.form.Named.the-variants.{Register, Probe, Activate, Store, Nothing}
 use Rattle.lecom.specs.declared.frame.Order.{Order}
@@ -26,8 +26,8 @@ pub record Outlines (f : List ℕ) (o : Outline) : Type 0 where
   pub ends : o .end ≡ codeEnd f
 
 -- what a frame that reached the unit asks
-unfoldable pub heard : List ℕ → Order
-heard f =
+unfoldable pub orderHere : List ℕ → Order
+orderHere f =
     unless (sizeRight f) frameForm
     (unless (endRight f) frameForm
     (unless (codeRight f) frameForm
@@ -35,7 +35,7 @@ heard f =
     (unless (codeKnown f) rangeUnknown
     (unless (writeRight f) readOnly
     (unless (dataRight f) valueOutside
-    (orderIn f)))))))
+    (ordered f)))))))
 
 -- the card has what is named
 abbrev pub Has : Named → Type 0

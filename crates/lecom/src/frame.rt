@@ -20,8 +20,8 @@ ghost use lib.ListN.{length, getD};
 ghost use Rattle.wire.specs.Choose.{choose};
 ghost use Rattle.card.specs.Numbers.{valueOutside, readOnly};
 ghost use Rattle.lecom.specs.Form.{shortest};
-ghost use Rattle.lecom.specs.Frame.{reaches, codeEnd, sizeRight, endRight, codeRight, bccOf, bccRight, pairIn, quadIn, namedIn, writeRight, valueRight, valueIn, dataRight, orderIn, unless, asked};
-ghost use Rattle.lecom.specs.Stages.{Outlines, heard};
+ghost use Rattle.lecom.specs.Frame.{reaches, codeEnd, sizeRight, endRight, codeRight, bccOf, bccRight, pairIn, quadIn, namedIn, writeRight, valueRight, valueIn, dataRight, ordered, unless, asked};
+ghost use Rattle.lecom.specs.Stages.{Outlines, orderHere};
 
 // What an address's first figure counts.
 const TEN: u32 = DECIMAL as u32;
@@ -207,7 +207,7 @@ fn write_of(named: Named, parsed: Parsed) -> Order
 // Read-only, data and the order itself, for a frame with a known code.
 fn order_in(f: &[u8], outline: Outline, named: Named) -> Order
     requires { ⌜ (sizeRight (now f) ≡ true) × (Outlines (now f) outline × (named ≡ namedIn (now f))) ⌝ }
-    ensures { λ r. ⌜ r ≡ unless (writeRight (now (f .entry))) readOnly (unless (dataRight (now (f .entry))) valueOutside (orderIn (now (f .entry)))) ⌝ }
+    ensures { λ r. ⌜ r ≡ unless (writeRight (now (f .entry))) readOnly (unless (dataRight (now (f .entry))) valueOutside (ordered (now (f .entry)))) ⌝ }
 {
     if !outline.write {
         return Order::Read(named);
@@ -221,9 +221,9 @@ fn order_in(f: &[u8], outline: Outline, named: Named) -> Order
 }
 
 // What a frame that reached the unit asks.
-fn heard_order(f: &[u8], outline: Outline) -> Order
+fn order_here(f: &[u8], outline: Outline) -> Order
     requires { ⌜ (shortest ≤ length (now f)) × Outlines (now f) outline ⌝ }
-    ensures { λ r. ⌜ r ≡ heard (now (f .entry)) ⌝ }
+    ensures { λ r. ⌜ r ≡ orderHere (now (f .entry)) ⌝ }
 {
     if !size_right(f, outline) {
         return Order::Refused(FRAME_FORM);
@@ -261,5 +261,5 @@ pub fn order_of(address: u32, f: &[u8], outline: Outline) -> Order
     if !is_reached(address, f, outline) {
         return Order::Silent(FOREIGN_ADDRESS);
     }
-    heard_order(f, outline)
+    order_here(f, outline)
 }

@@ -1,4 +1,4 @@
-// The LucidControl dialect: what a frame asks, what the card answers, and the entry. Document 01, "LucidControl".
+// The LucidControl dialect. Document 01, "LucidControl"; source document 002.
 mod answer;
 mod form;
 mod frame;
@@ -11,7 +11,7 @@ ghost use Rattle.card.specs.Layout.{cardOf};
 ghost use Rattle.card.specs.Reply.{Gave};
 ghost use Rattle.lucid.specs.Answer.{lucidReply};
 
-// A LucidControl frame f received by the card; the answer goes to the front of out. Memory and the pending change are lent to be read only.
+// A LucidControl frame f reaches the card; the answer goes to the front of out.
 pub fn lucid(words: &mut [u32], memory: &[u8], pending: &[u8], f: &[u8], out: &mut [u8]) -> Outcome
     ensures { λ r.
         let before = cardOf (now (words .entry)) (now (memory .entry)) (now (pending .entry)) in

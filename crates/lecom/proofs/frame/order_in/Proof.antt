@@ -7,14 +7,14 @@ use mathlib.Core.Path.{ap}
 use native.Mathlib.Omega.{arith}
 use Rattle.wire.specs.Choose.{choose}
 use Rattle.lecom.specs.Form.{dataLeast, dataMost, closing}
-use Rattle.lecom.specs.Frame.{writeRight, dataOf, dataRead, dataRight, orderIn}
+use Rattle.lecom.specs.Frame.{writeRight, dataOf, dataRead, dataRight, ordered}
 use Rattle.lecom.proofs.Frames.{write-holds}
 use borrow.Author.Needs.{needs}
 use Rattle.lecom.proofs.frame.order_in.Statement.{statement}
 use Rattle.lecom.proofs.frame.order_in.Tie as tie
 
 returns : tie.Need-returns
-unfolding writeRight dataRight orderIn choose
+unfolding writeRight dataRight ordered choose
 returns c =
     let start = c .before .before .before in
     simp (told-no (start .pre .1 .0 .writes) (c .if1 .taken)) (ap Read (start .pre .1 .1))
@@ -53,7 +53,7 @@ write-of-requires : tie.Need-write-of-requires
 write-of-requires c κs = search needs
 
 returns-3 : tie.Need-returns-3
-unfolding writeRight dataRight orderIn dataRead dataOf choose
+unfolding writeRight dataRight ordered dataRead dataOf choose
 returns-3 c =
     let start = c .before .before .before .before .before .before .before .before in
     let write = told-yes (start .pre .1 .0 .writes) (c .before .before .before .before .before .if1 .left) in

@@ -6,7 +6,7 @@ use lib.ListN.{length}
 use native.Mathlib.Omega.{arith}
 use Rattle.lecom.specs.Form.{shortest, longest}
 use Rattle.lecom.specs.Frame.{asked, figuresRight}
-use Rattle.lecom.specs.Stages.{heard}
+use Rattle.lecom.specs.Stages.{orderHere}
 use borrow.Author.Needs.{needs}
 use Rattle.lecom.proofs.frame.order_of.Statement.{statement}
 use Rattle.lecom.proofs.frame.order_of.Tie as tie
@@ -52,11 +52,11 @@ returns-4 : tie.Need-returns-4
 unfolding asked figuresRight
 returns-4 c = search cases
 
-heard-order-requires : tie.Need-heard-order-requires
-heard-order-requires c κs = (long (c .before .before .before .before .before .before .before), search needs)
+order-here-requires : tie.Need-order-here-requires
+order-here-requires c κs = (long (c .before .before .before .before .before .before .before), search needs)
 
 returns-5 : tie.Need-returns-5
-unfolding asked figuresRight heard
+unfolding asked figuresRight orderHere
 returns-5 c = search cases
 
 pub order-of-spec : {M : Type 1} → statement M
@@ -74,5 +74,5 @@ order-of-spec =
     returns-3
     is-reached-requires
     returns-4
-    heard-order-requires
+    order-here-requires
     returns-5)
