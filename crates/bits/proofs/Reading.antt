@@ -1,7 +1,7 @@
 -- Laws of reading: how large a field is, fields side by side, a byte as a field, and images that agree in every bit.
 -- Assumes nothing.
 use Prim.Native.Nat.{ℕ, zero, suc, _+_, _-_, _*_, _/_, _%_, _^_, _≤_, _<_}
-use mathlib.Core.Path.{_≡_, refl, sym, _∙_}
+use mathlib.Core.Path.{_≡_, refl, sym, ap, _∙_}
 use mathlib.Core.List.{List}
 use native.Mathlib.Omega.{arith}
 use native.Mathlib.Nat.{pow-suc, mul-assoc, div-one}
@@ -40,22 +40,12 @@ field-middle img p a w d =
     let l = low (field img p a) w (field-lt img (p + a) w) in
     rw (field-append img p (a + w) d, h, field-append img p a w) l
 
--- The bytes that hold a field: from byte p / 8 up to, not including, byte (p + w + 7) / 8.
-
--- the bits that these bytes have after the field
-abbrev pub after : ℕ → ℕ → ℕ
-after p w = 8 * ((p + w + 7) / 8) - (p + w)
-
--- the bits of these bytes: those before the field, the field's, and those after it
-pub held : (p w : ℕ) → 8 * ((p + w + 7) / 8 - p / 8) ≡ p % 8 + w + after p w
-held p w = omega arith
-
-pub held-from : (p : ℕ) → 8 * (p / 8) + p % 8 ≡ p
-held-from p = omega arith
-
--- the field is the middle of the bytes that hold it
-pub field-held : (img : List ℕ) (p w : ℕ) → field img (8 * (p / 8)) (8 * ((p + w + 7) / 8 - p / 8)) / 2 ^ after p w % 2 ^ w ≡ field img p w
-field-held img p w = rw held (field-middle img (8 * (p / 8)) (p % 8) w (after p w) ∙ rw (held-from p))
+-- a field that lies within another
+pub field-inside : (img : List ℕ) (q n p w : ℕ) → q ≤ p → p + w ≤ q + n → field img q n / 2 ^ (q + n - (p + w)) % 2 ^ w ≡ field img p w
+field-inside img q n p w h k =
+    let e : n ≡ (p - q) + w + (q + n - (p + w)) = omega arith in
+    let a : q + (p - q) ≡ p = omega arith in
+    ap (λ (m : ℕ). field img q m / 2 ^ (q + n - (p + w)) % 2 ^ w) e ∙ field-middle img q (p - q) w (q + n - (p + w)) ∙ ap (λ (x : ℕ). field img x w) a
 
 -- a field is its bits
 pub field-ext : (a b : List ℕ) (p w : ℕ) → ((i : ℕ) → i < w → bit a (p + i) ≡ bit b (p + i)) → field a p w ≡ field b p w

@@ -1,14 +1,14 @@
 -- Laws of fields one after another, over any list of widths: values that fit are read back, values that were read leave the image as it was, and fields that cover the
 -- whole image leave nothing of what was there before.
 -- Assumes nothing.
-use Prim.Native.Nat.{ℕ, _+_, _*_, _^_, _≤_, _<_}
-use mathlib.Core.Path.{_≡_, refl, sym, _∙_}
+use Prim.Native.Nat.{ℕ, suc, _+_, _-_, _*_, _^_, _≤_, _<_}
+use mathlib.Core.Path.{_≡_, refl, sym, ap, _∙_}
 use mathlib.Core.Logic.{_⊎_, inl, inr, ⊎-elim}
 use mathlib.Core.List.{List, [], _∷_, _++_}
 use native.Mathlib.Omega.{arith}
 use native.Mathlib.Nat.{mod-eq-of-lt}
 use native.Mathlib.Decide.{decLt}
-use lib.ListN.{length}
+use lib.ListN.{length, replicate}
 use Rattle.bits.specs.Bits.{bit, field, putField}
 use Rattle.bits.specs.Fields.{widthOf, fields, putFields}
 use Rattle.bits.proofs.Reading.{Bytes, field-lt, image-ext}
@@ -101,3 +101,21 @@ putFields-whole a b ws vs n ha hb l h =
   where
     la : length (putFields a 0 ws vs) ≡ length a
     la = length-putFields a 0 ws vs
+
+-- Properties of n fields of one width, of which i are passed
+
+left-next : (n i w : ℕ) → i < n → replicate (n - i) w ≡ w ∷ replicate (n - suc i) w
+left-next n i w h = let e : n - i ≡ suc (n - suc i) = omega arith in ap (λ (m : ℕ). replicate m w) e
+
+pub width-next : (n i w : ℕ) → i < n → widthOf (replicate (n - i) w) ≡ w + widthOf (replicate (n - suc i) w)
+unfolding widthOf
+width-next n i w h = ap widthOf (left-next n i w h)
+
+pub fields-next : (img : List ℕ) (p n i w : ℕ) → i < n → fields img p (replicate (n - i) w) ≡ field img p w ∷ fields img (p + w) (replicate (n - suc i) w)
+unfolding fields
+fields-next img p n i w h = ap (fields img p) (left-next n i w h)
+
+-- none are left
+pub fields-last : (img : List ℕ) (p n w : ℕ) → fields img p (replicate (n - n) w) ≡ []
+unfolding fields
+fields-last img p n w = let e : n - n ≡ 0 = omega arith in rw e

@@ -13,8 +13,7 @@ use lib.Seq.{getD-set-same, getD-set-other, set-getD}
 use lib.Pow.{pow-pos, pow-add, shr-lt, high, low, split, shr-shr, mod-pow-add, mod-mod-pow}
 use lib.Pow as Pow
 use Rattle.bits.specs.Bits.{bit, field, withBit, putBit, putField}
-use Rattle.bits.specs.Bytes.{withMiddle}
-use Rattle.bits.proofs.Reading.{Bytes, bit-lt, field-lt, field-append, field-ext, field-byte, after, held, held-from, image-ext-bytes}
+use Rattle.bits.proofs.Reading.{Bytes, bit-lt, field-ext, field-byte, image-ext-bytes}
 
 -- Properties of withBit
 
@@ -224,35 +223,6 @@ putField-last img f k v h hk hs =
     let e : 8 * k ≡ 8 * (k - 1) + 8 = omega arith in
     let q : 8 * f + 8 * (k - 1) ≡ 8 * (f + (k - 1)) = omega arith in
     rw (e, putField-append img (8 * f) (8 * (k - 1)) 8 v, q, putField-byte img (f + (k - 1)) v h hs)
-
--- a field within the bytes that hold it: those of withMiddle are written, and the field alone changes
-pub putField-middle : (img : List ℕ) (p a w d v : ℕ) → p + (a + w) ≤ 8 * length img → putField img p (a + w + d) (withMiddle (field img p (a + w + d)) d w v) ≡ putField img (p + a) w v
-unfolding withMiddle
-putField-middle img p a w d v h =
-    let n = field img p (a + w + d) in
-    let r = n % 2 ^ d in
-    let s = v % 2 ^ w in
-    let q = n / 2 ^ (w + d) in
-    let m = q * 2 ^ w + s in
-    let img′ = putField img (p + a) w v in
-    let n-low : r ≡ field img (p + (a + w)) d = rw (field-append img p (a + w) d) (low (field img p (a + w)) d (field-lt img (p + (a + w)) d)) in
-    let n-high : n / 2 ^ d ≡ field img p (a + w) = rw (field-append img p (a + w) d) (high (field img p (a + w)) d (field-lt img (p + (a + w)) d)) in
-    let q-is : q ≡ field img p a = ap (λ (x : ℕ). n / 2 ^ x) (omega arith) ∙ sym (shr-shr n d w) ∙ ap (λ (x : ℕ). x / 2 ^ w) n-high ∙ ap (λ (x : ℕ). x / 2 ^ w) (field-append img p a w) ∙ high (field img p a) w (field-lt img (p + a) w) in
-    let right : putField img (p + (a + w)) d (m * 2 ^ d + r) ≡ img =
-    sym (putField-cut img (p + (a + w)) d (m * 2 ^ d + r)) ∙ ap (putField img (p + (a + w)) d) (low m d (mod-lt n (pow-pos d)) ∙ n-low) ∙ putField-own img (p + (a + w)) d in
-    let inner : putField img (p + a) w m ≡ img′ = sym (putField-cut img (p + a) w m) ∙ ap (putField img (p + a) w) (low q w (mod-lt v (pow-pos w))) ∙ putField-cut img (p + a) w v in
-    let left : q ≡ field img′ p a = q-is ∙ sym (field-putField-other img (p + a) w v p a (omega arith) (inl (omega arith))) in
-    putField-append img p (a + w) d (m * 2 ^ d + r)
-    ∙ ap (λ (x : List ℕ). putField x p (a + w) ((m * 2 ^ d + r) / 2 ^ d)) right
-    ∙ ap (putField img p (a + w)) (high m d (mod-lt n (pow-pos d)))
-    ∙ putField-append img p a w m
-    ∙ ap (λ (x : List ℕ). putField x p a (m / 2 ^ w)) inner
-    ∙ ap (putField img′ p a) (high q w (mod-lt v (pow-pos w)) ∙ left)
-    ∙ putField-own img′ p a
-
-pub putField-held : (img : List ℕ) (p w v : ℕ) → p + w ≤ 8 * length img
-    → putField img (8 * (p / 8)) (8 * ((p + w + 7) / 8 - p / 8)) (withMiddle (field img (8 * (p / 8)) (8 * ((p + w + 7) / 8 - p / 8))) (after p w) w v) ≡ putField img p w v
-putField-held img p w v h = rw held (putField-middle img (8 * (p / 8)) (p % 8) w (after p w) v (omega arith) ∙ rw (held-from p))
 
 -- Properties of two images
 

@@ -1,8 +1,12 @@
 -- A bit-packed image, most significant bit first: the field of any width at any place, as it is read and as it is written.
 -- Definitions only.
-use Prim.Native.Nat.{ℕ, zero, suc, _+_, _-_, _*_, _/_, _%_, _^_, _≤_}
+use Prim.Native.Nat.{ℕ, zero, suc, _+_, _-_, _*_, _/_, _%_, _^_, _≤_, _<_}
 use mathlib.Core.List.{List}
 use lib.ListN.{length, getD, set}
+
+-- how many values a byte has
+abbrev pub byteValues : ℕ
+byteValues = 256
 
 -- the bit at place p: the bit of weight 2 ^ (7 - p % 8) of byte p / 8
 unfoldable pub bit : List ℕ → ℕ → ℕ
@@ -33,8 +37,17 @@ widest = 32
 abbrev pub longest : ℕ
 longest = 4096
 
--- the field of w bits from place p on lies in the image
+-- the bytes that a field is read through, and their bits
+abbrev pub windowBytes : ℕ
+windowBytes = 8
+
+abbrev pub windowBits : ℕ
+windowBits = 64
+
+-- the field of w bits from place p on lies in an image that holds a window
 pub record Within (img : List ℕ) (p w : ℕ) : Type 0 where
   pub inside : p + w ≤ 8 * length img
+  pub some : 0 < w
   pub narrow : w ≤ widest
+  pub long : windowBytes ≤ length img
   pub short : length img ≤ longest

@@ -1,4 +1,3 @@
 pub mod Bits
 pub mod Fields
-pub mod Bytes
-pub mod Reader
+pub mod Packing

@@ -154,13 +154,13 @@ ranges-part ws a e h k =
     ∙ ap (λ (i : ℕ). inRanges a (part ws a e) && inRanges i (drop e ws)) n
 
 -- words of one range
-ranges-run : (lo hi k : ℕ) (s : List ℕ) → ((j x : ℕ) → k ≤ j → j < k + length s → inSpan lo hi x ≡ inRange j x) → inRanges k s ≡ allIn lo hi s
+pub ranges-run : (lo hi k : ℕ) (s : List ℕ) → ((j x : ℕ) → k ≤ j → j < k + length s → inSpan lo hi x ≡ inRange j x) → inRanges k s ≡ allIn lo hi s
 unfolding inRanges allIn
 ranges-run lo hi k [] h = refl
 ranges-run lo hi k (x ∷ s) h = rw (h k x (omega arith) (omega arith)) (ap (λ (t : Bool). inRange k x && t) (ranges-run lo hi (suc k) s (λ j y a b. h j y (omega arith) (omega arith))))
 
 -- pairs of parameters
-ranges-pairs : (k : ℕ) (s : List ℕ) → parametersAt ≤ k → k + length s ≤ bufferAt → (k - parametersAt) % 2 ≡ 0 → length s % 2 ≡ 0 → inRanges k s ≡ fitParameters s
+pub ranges-pairs : (k : ℕ) (s : List ℕ) → parametersAt ≤ k → k + length s ≤ bufferAt → (k - parametersAt) % 2 ≡ 0 → length s % 2 ≡ 0 → inRanges k s ≡ fitParameters s
 unfolding inRanges fitParameters
 ranges-pairs k [] a b even pairs = refl
 ranges-pairs k (x ∷ []) a b even pairs = let z : ⊥ = omega arith in absurd z

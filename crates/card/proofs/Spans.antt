@@ -13,7 +13,7 @@ use Rattle.card.specs.Fitness.{inSpan}
 use Rattle.card.specs.Scans.{half, isBeyond}
 
 -- hi is d words above lo, and x is e words above it, modulo 2 ^ 32: x lies in the span where e is at most d
-span-from : (lo hi x d e : ℕ) → lo < wordValues → d < wordValues → e < wordValues → (d + lo) % wordValues ≡ hi → (e + lo) % wordValues ≡ x → inSpan lo hi x ≡ not (ltb d e)
+pub span-from : (lo hi x d e : ℕ) → lo < wordValues → d < wordValues → e < wordValues → (d + lo) % wordValues ≡ hi → (e + lo) % wordValues ≡ x → inSpan lo hi x ≡ not (ltb d e)
 unfolding inSpan choose
 span-from lo hi x d e hl hd he p q = by (decLt hi lo) (decLt x lo) (decLt hi x)
   where

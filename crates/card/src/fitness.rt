@@ -15,7 +15,7 @@ use crate::layout::WORDS;
 use std::num::wrapping_add_u32;
 use std::num::wrapping_sub_u32;
 ghost use mathlib.Core.Path.{_≡_};
-ghost use Prim.Native.Nat.{_*_};
+ghost use Prim.Native.Nat.{_*_, _≤_};
 ghost use lib.ListN.{length};
 ghost use Rattle.wire.specs.Word.{minus};
 ghost use Rattle.card.specs.Layout.{cardOf, parameterCount, registers, wordCount};
@@ -147,8 +147,8 @@ fn fit_addresses(ia: u32, lecom: u32, love: u32) -> bool
 }
 
 // Whether pairs of parameters 1110h and 1120h are in their ranges.
-fn fit_parameters(s: &[u32]) -> bool
-    requires { ⌜ length (now s) ≡ 2 * parameterCount ⌝ }
+pub fn fit_parameters(s: &[u32]) -> bool
+    requires { ⌜ length (now s) ≤ 2 * parameterCount ⌝ }
     ensures { λ r. ⌜ r ≡ fitParameters (now (s .entry)) ⌝ }
 {
     let mut ok = true;

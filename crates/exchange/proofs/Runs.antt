@@ -11,7 +11,7 @@ use Rattle.card.specs.Layout.{Card, cardOf, iaAt}
 use Rattle.card.specs.Fitness.{inSpan, fit}
 use Rattle.card.specs.Scans.{allIn}
 use Rattle.card.proofs.Facts.{span-most}
-use Rattle.image.specs.Form.{run as entries, savedForm}
+use Rattle.image.specs.Form.{run as entries, entriesIn, savedRuns, savedForm}
 use Rattle.image.specs.Saved.{fieldOf, wordOf, values, replaced, imageOf, restored}
 use Rattle.image.proofs.Words.{Words}
 use Rattle.image.proofs.RoundTrip.{read-written, entriesOf-imageOf}
@@ -176,7 +176,7 @@ unfolding computed allIn
 first-image = image-call 4 echoHeard refl refl refl
 
 second-image : next foreign (imageRead 3) ≡ regained 3 foreign
-unfolding computed allIn fieldOf wordOf values replaced entries savedForm
+unfolding computed allIn fieldOf wordOf values replaced entries entriesIn savedRuns savedForm
 second-image = image-call 3 foreign refl refl refl
 
 images-read : run asWritten two (begin asWritten fresh) imagesRead ≡ toTheEnd (regained 3 foreign)
@@ -187,7 +187,7 @@ unfolding computed allows
 images-allowed = refl
 
 image-between : Runs two fresh imagesRead Done 0x1010 8
-unfolding computed fieldOf wordOf values replaced entries savedForm
+unfolding computed fieldOf wordOf values replaced entries entriesIn savedRuns savedForm
 image-between =
     record {
       asked = refl;

@@ -1,8 +1,10 @@
-pub mod Table
 pub mod Words
-pub mod Steps
+pub mod Runs
+pub mod Again
+pub mod Walking
 pub mod Whole
 pub mod Ranges
+pub mod Judging
 pub mod Outcomes
 pub mod RoundTrip
 pub mod Laws

@@ -13,12 +13,11 @@ use Rattle.card.specs.Layout.{Card, savedRegistersAt, wordCount}
 use Rattle.card.specs.Fitness.{inRange, fitWords, fit}
 use Rattle.card.proofs.Facts.{fit-facts, fit-words}
 use Rattle.card.proofs.Ranges.{InRange, at-register, words-at, set-fit}
-use Rattle.image.specs.declared.form.Entry.{Entry}
-use Rattle.image.specs.Form.{savedForm}
+use Rattle.image.specs.Form.{Entry, savedForm}
 use Rattle.image.specs.Saved.{wordOf, values, replaced, entriesOf, restored}
 use Rattle.image.specs.Ranges.{entryRight, entriesRight}
 use Rattle.image.proofs.Words.{Words, Sound, empty, entry, wordOf-fieldOf, length-replaced, replaced-first}
-use Rattle.image.proofs.Steps.{form-sound}
+use Rattle.image.proofs.Runs.{form-sound}
 
 -- an entry's range is that of its word
 pub entry-range : (e : Entry) (x : ℕ) → entryRight e x ≡ inRange (e .word) x

@@ -3,8 +3,7 @@ use Prim.Native.Nat.{ℕ, zero, suc, _+_, _-_, _%_, _^_, _≤_, _<_}
 use mathlib.Core.Path.{_≡_, refl, sym, ap, _∙_}
 use mathlib.Core.Bool.{Bool, true, false, _||_}
 use mathlib.Core.Logic.{inl}
-use mathlib.Core.List.{List, [], _∷_}
-use native.Mathlib.Decide.{decLt}
+use mathlib.Core.List.{List, [], _∷_, _++_}
 use native.Mathlib.Omega.{arith}
 use borrow.Author.Tests.{lt-leb, leb-true}
 use lib.Dec.{leb}
@@ -18,19 +17,19 @@ use Rattle.bits.proofs.Reading.{Bytes}
 use Rattle.bits.proofs.Writing.{putField-own}
 use Rattle.bits.proofs.Sequences.{Fit, none, more, fields-fit, fields-putFields, putFields-own}
 use Rattle.card.specs.Numbers.{done}
-use Rattle.card.specs.Layout.{Card, savedRegistersAt, loveAt, wordCount}
+use Rattle.card.specs.Layout.{Card, iaAt, lecomAddressAt, loveAddressAt, wordCount}
 use Rattle.card.specs.Fitness.{inSpan, inRange, iaMost, lecomLeast, lecomMost, loveAddressMost, loveMost, registerMost, fit}
 use Rattle.card.specs.Reply.{Reply, silent}
 use Rattle.card.proofs.Facts.{fit-facts}
 use Rattle.card.proofs.Ranges.{InRange, at-love, at-register}
-use Rattle.image.specs.declared.form.Entry.{Entry}
-use Rattle.image.specs.Form.{run, savedForm, registerBias, loveBias, holds, widths, used, padding, imageSize}
+use Rattle.image.specs.declared.form.Run.{Run}
+use Rattle.image.specs.Form.{Entry, run, entriesOfRun, entriesIn, savedRuns, savedForm, registerBias, loveBias, holds, widths, used, padding, imageSize}
+use Rattle.image.specs.Scans.{runCount, noRun, runAt}
 use Rattle.image.specs.Saved.{fieldOf, values, replaced, imageOf, entriesOf, paddingOf, restored}
 use Rattle.image.specs.Ranges.{entriesRight}
 use Rattle.image.specs.Entries.{readImage}
-use Rattle.image.proofs.Table as table
 use Rattle.image.proofs.Words.{Words, values-replaced, replaced-values, replaced-other}
-use Rattle.image.proofs.Steps.{form-sound}
+use Rattle.image.proofs.Runs.{runs-length, form-sound}
 use Rattle.image.proofs.Whole.{total, length-blank, length-imageOf, padding-imageOf, imageOf-written}
 use Rattle.image.proofs.Ranges.{fit-in-range, right-values}
 use Rattle.image.proofs.Outcomes.{read-done, read-was-done, read-card}
@@ -46,38 +45,44 @@ biased b hi x l h t = by (leb (minus b) x) refl (rw (lt-leb (minus b) hi (omega 
     by true e g = let m = leb-true (minus b) x e in omega arith
     by false e g = let m = leb-true x hi g in omega arith
 
--- what stands in entry k's field fits it
-abbrev FitsAt : List Entry → List ℕ → ℕ → Type 0
-FitsAt form ws k = fieldOf (getD form k table.none) (getD ws (getD form k table.none .word) 0) < 2 ^ (getD form k table.none .width)
+-- what stands in the fields of a run whose words are in their ranges fits them
+fit-run : (word n w b : ℕ) (ws : List ℕ) → ((k : ℕ) → word ≤ k → k < word + n → (getD ws k 0 + b) % wordValues < 2 ^ w) → Fit (widths (run word n w b)) (values (run word n w b) ws)
+unfolding run widths values fieldOf
+fit-run word zero w b ws h = none
+fit-run word (suc n) w b ws h = more (h word (omega arith) (omega arith)) (fit-run (suc word) n w b ws (λ k g l. h k (omega arith) (omega arith)))
 
-fit-form : (form : List Entry) (ws : List ℕ) → ((k : ℕ) → k < length form → FitsAt form ws k) → Fit (widths form) (values form ws)
+fit-append : (f g : List Entry) (ws : List ℕ) → Fit (widths f) (values f ws) → Fit (widths g) (values g ws) → Fit (widths (f ++ g)) (values (f ++ g) ws)
 unfolding widths values
-fit-form [] ws h = none
-fit-form (e ∷ form) ws h = more (h 0 (omega arith)) (fit-form form ws (λ k l. h (suc k) (omega arith)))
+fit-append [] g ws a b = b
+fit-append (e ∷ f) g ws (more l a) b = more l (fit-append f g ws a b)
 
--- the entries past the addresses
-past-addresses : (ws : List ℕ) → length ws ≡ wordCount → Words ws → InRange ws → (k : ℕ) → table.firstRegister ≤ k → k < table.entryCount → Dec (k < table.firstParameter) → Dec (k < table.firstLove) → FitsAt savedForm ws k
-unfolding fieldOf
-past-addresses ws n hw h k g l (yes a) b =
-    let j = savedRegistersAt + (k - table.firstRegister) in
-    let x = biased registerBias registerMost (getD ws j 0) (omega arith) (hw j) (at-register j (getD ws j 0) (omega arith) ∙ h j (omega arith)) in
-    rw (table.register-at k g a) (omega arith)
-past-addresses ws n hw h k g l (no a) (yes b) = rw (table.parameter-at k (omega arith) b) (omega arith)
-past-addresses ws n hw h k g l (no a) (no b) =
-    let j = loveAt + (k - table.firstLove) in
-    let x = biased loveBias loveMost (getD ws j 0) (omega arith) (hw j) (at-love j (getD ws j 0) (omega arith) (omega arith) ∙ h j (omega arith)) in
-    rw (table.love-at k (omega arith) l) (omega arith)
+module _ (ws : List ℕ) (n : length ws ≡ wordCount) (hw : Words ws) (h : InRange ws) where
+  abbrev Fits : Run → ℕ → Type 0
+  Fits r k = (getD ws k 0 + r .bias) % wordValues < 2 ^ (r .width)
 
--- each value of the image's table
-value-fits : (ws : List ℕ) → length ws ≡ wordCount → Words ws → InRange ws → (k : ℕ) → k < table.entryCount → Dec (k < table.firstParameter) → Dec (k < table.firstLove) → FitsAt savedForm ws k
-unfolding savedForm run fieldOf inRange choose
-value-fits ws n hw h zero l a b = let x = leb-true (getD ws 0 0) iaMost (h 0 (omega arith)) in omega arith
-value-fits ws n hw h (suc zero) l a b = let x = leb-true (getD ws 1 0) lecomMost (and-true (leb (getD ws 1 0) lecomMost) _ (and-true (leb lecomLeast (getD ws 1 0)) _ (h 1 (omega arith)) .1) .0) in omega arith
-value-fits ws n hw h (suc (suc zero)) l a b = let x = leb-true (getD ws 2 0) loveAddressMost (and-true (leb (getD ws 2 0) loveAddressMost) _ (h 2 (omega arith)) .0) in omega arith
-value-fits ws n hw h (suc (suc (suc k))) l a b = past-addresses ws n hw h (suc (suc (suc k))) (omega arith) l a b
+  -- each run of the image's form
+  runs-fit : (j : ℕ) → j < runCount → (k : ℕ) → runAt j .word ≤ k → k < runAt j .word + runAt j .count → Fits (runAt j) k
+  unfolding savedRuns inRange choose
+  runs-fit zero l k g m = let e : k ≡ iaAt = omega arith in rw e (let x = leb-true (getD ws iaAt 0) iaMost (h iaAt (omega arith)) in omega arith)
+  runs-fit (suc zero) l k g m =
+      let e : k ≡ lecomAddressAt = omega arith in
+      rw e (let x = leb-true (getD ws lecomAddressAt 0) lecomMost (and-true (leb (getD ws lecomAddressAt 0) lecomMost) _ (and-true (leb lecomLeast (getD ws lecomAddressAt 0)) _ (h lecomAddressAt (omega arith)) .1) .0) in omega arith)
+  runs-fit (suc (suc zero)) l k g m =
+      let e : k ≡ loveAddressAt = omega arith in
+      rw e (let x = leb-true (getD ws loveAddressAt 0) loveAddressMost (and-true (leb (getD ws loveAddressAt 0) loveAddressMost) _ (h loveAddressAt (omega arith)) .0) in omega arith)
+  runs-fit (suc (suc (suc zero))) l k g m = let x = biased registerBias registerMost (getD ws k 0) (omega arith) (hw k) (at-register k (getD ws k 0) (omega arith) ∙ h k (omega arith)) in omega arith
+  runs-fit (suc (suc (suc (suc zero)))) l k g m = omega arith
+  runs-fit (suc (suc (suc (suc (suc zero))))) l k g m = let x = biased loveBias loveMost (getD ws k 0) (omega arith) (hw k) (at-love k (getD ws k 0) (omega arith) (omega arith) ∙ h k (omega arith)) in omega arith
+  runs-fit (suc (suc (suc (suc (suc (suc j)))))) l k g m = let z : ⊥ = omega arith in absurd z
 
-fit-values : (ws : List ℕ) → length ws ≡ wordCount → Words ws → InRange ws → Fit (widths savedForm) (values savedForm ws)
-fit-values ws n hw h = fit-form savedForm ws (λ k l. value-fits ws n hw h k (omega (arith, table.form-length)) (decLt k table.firstParameter) (decLt k table.firstLove))
+  fit-runs : (rs : List Run) → ((j : ℕ) → j < length rs → (k : ℕ) → getD rs j noRun .word ≤ k → k < getD rs j noRun .word + getD rs j noRun .count → Fits (getD rs j noRun) k) → Fit (widths (entriesIn rs)) (values (entriesIn rs) ws)
+  unfolding entriesIn widths values
+  fit-runs [] f = none
+  fit-runs (r ∷ rs) f = fit-append (entriesOfRun r) (entriesIn rs) ws (fit-run (r .word) (r .count) (r .width) (r .bias) ws (f 0 (omega arith))) (fit-runs rs (λ j l. f (suc j) (omega arith)))
+
+  fit-values : Fit (widths savedForm) (values savedForm ws)
+  unfolding savedForm
+  fit-values = fit-runs savedRuns (λ j l. runs-fit j (omega (arith, runs-length)))
 
 -- The laws
 

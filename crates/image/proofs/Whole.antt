@@ -11,10 +11,9 @@ use Rattle.bits.specs.Fields.{widthOf, putFields}
 use Rattle.bits.proofs.Reading.{Bytes}
 use Rattle.bits.proofs.Writing.{putField-own}
 use Rattle.bits.proofs.Sequences.{length-putFields, field-putFields-other, putFields-append, putFields-whole}
-use Rattle.image.specs.declared.form.Entry.{Entry}
-use Rattle.image.specs.Form.{run, savedForm, widths, used, padding, imageSize}
+use Rattle.image.specs.Form.{Entry, run, entriesIn, savedRuns, savedForm, widths, used, padding, imageSize}
 use Rattle.image.specs.Saved.{values, imageOf, paddingOf}
-use Rattle.image.proofs.Table.{usedBits, form-used}
+use Rattle.image.proofs.Runs.{usedBits, form-used}
 
 length-widths : (form : List Entry) → length (widths form) ≡ length form
 unfolding widths
@@ -40,7 +39,7 @@ replicate-bytes (suc n) (suc k) = replicate-bytes n k
 
 -- the widths of all fields, the padding's last, are the image's bits
 all-widths : widthOf (widths savedForm ++ (padding ∷ [])) ≡ 8 * imageSize
-unfolding savedForm run widths widthOf
+unfolding savedForm savedRuns entriesIn run widths widthOf
 all-widths = refl
 
 pub length-imageOf : (ws : List ℕ) → length (imageOf ws) ≡ imageSize

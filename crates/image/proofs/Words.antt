@@ -1,10 +1,9 @@
 -- Laws of the words that a table's entries hold, over any table: what reading gives back, and what it leaves. Assumes nothing.
-use Prim.Native.Nat.{ℕ, zero, suc, _^_, _≤_, _<_}
+use Prim.Native.Nat.{ℕ, _^_, _≤_, _<_}
 use mathlib.Core.Path.{_≡_, refl, ap, _∙_}
 use mathlib.Core.Bool.{Bool, true, false, _&&_, _||_, not, false≢true}
 use mathlib.Core.Logic.{_⊎_, inl, inr}
 use mathlib.Core.List.{List, [], _∷_}
-use native.Mathlib.Nat.{not-suc-le-zero, le-of-suc-le-suc}
 use native.Mathlib.Omega.{arith}
 use borrow.Author.Tests.{ltb-true, leb-true, eqb-true, eqb-false, not-true}
 use lib.Dec.{eqb, ltb, leb}
@@ -15,8 +14,7 @@ use Rattle.wire.proofs.Tests.{and-true}
 use Rattle.wire.specs.Word.{wordValues}
 use Rattle.bits.specs.Bits.{widest}
 use Rattle.bits.proofs.Sequences.{Fit, none, more}
-use Rattle.image.specs.declared.form.Entry.{Entry}
-use Rattle.image.specs.Form.{entryOf, holds, widths}
+use Rattle.image.specs.Form.{Entry, holds, widths}
 use Rattle.image.specs.Saved.{fieldOf, wordOf, values, replaced}
 
 -- every word is a number of 32 bits
@@ -42,12 +40,6 @@ sound-true n (e ∷ form) h =
     let d = and-true (leb (e .width) widest) _ (b .1) in
     let f = and-true (not (holds form (e .word))) _ (d .1) in
     entry (ltb-true _ _ (a .0)) (ltb-true _ _ (b .0)) (leb-true _ _ (d .0)) (not-true _ (f .0)) (sound-true n form (f .1))
-
--- an entry of such a table
-pub sound-at : {n : ℕ} {form : List Entry} → Sound n form → (k : ℕ) → k < length form → (getD form k (entryOf 0 0 0) .word < n) × (getD form k (entryOf 0 0 0) .width ≤ widest)
-sound-at empty k h = absurd (not-suc-le-zero h)
-sound-at (entry a b d f s) zero h = (a, d)
-sound-at (entry a b d f s) (suc k) h = sound-at s k (le-of-suc-le-suc h)
 
 -- Properties of fieldOf and wordOf
 

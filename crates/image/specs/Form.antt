@@ -6,16 +6,32 @@ use lib.Dec.{eqb}
 use Rattle.bits.specs.Fields.{widthOf}
 use Rattle.card.specs.Layout.{iaAt, lecomAddressAt, loveAddressAt, savedRegistersAt, registers, savedParametersAt, parameterCount, loveAt, loveCount}
 use Rattle.card.specs.Fitness.{loveDepth}
-use Rattle.image.specs.declared.form.Entry.{Entry}
+use Rattle.image.specs.declared.form.Run.{Run}
 
 -- an entry: the word that it holds, the bits of its field, and what is added to the word there
+pub record Entry : Type 0 where
+  pub word : ℕ
+  pub width : ℕ
+  pub bias : ℕ
+
 abbrev pub entryOf : ℕ → ℕ → ℕ → Entry
 entryOf word width bias = record { word = word; width = width; bias = bias }
 
--- entries of one width and bias for count words from a word on
+-- a run: entries of one width and bias, for count words from a word on
+abbrev pub runOf : ℕ → ℕ → ℕ → ℕ → Run
+runOf word count width bias = record { word = word; count = count; width = width; bias = bias }
+
 unfoldable pub run : ℕ → ℕ → ℕ → ℕ → List Entry
 run word zero width bias = []
 run word (suc count) width bias = entryOf word width bias ∷ run (suc word) count width bias
+
+abbrev pub entriesOfRun : Run → List Entry
+entriesOfRun r = run (r .word) (r .count) (r .width) (r .bias)
+
+-- the entries of runs one after another
+unfoldable pub entriesIn : List Run → List Entry
+entriesIn [] = []
+entriesIn (r ∷ runs) = entriesOfRun r ++ entriesIn runs
 
 -- "I.A. 5, LECOM address 7, Love address 10"
 abbrev pub iaWidth : ℕ
@@ -45,15 +61,20 @@ loveWidth = 11
 abbrev pub loveBias : ℕ
 loveBias = loveDepth
 
--- the image's entries in the paper's order
+-- the image's runs in the paper's order
+unfoldable pub savedRuns : List Run
+savedRuns =
+    runOf iaAt 1 iaWidth 0
+    ∷ runOf lecomAddressAt 1 lecomWidth 0
+    ∷ runOf loveAddressAt 1 loveAddressWidth 0
+    ∷ runOf savedRegistersAt registers registerWidth registerBias
+    ∷ runOf savedParametersAt parameterCount parameterWidth 0
+    ∷ runOf loveAt loveCount loveWidth loveBias
+    ∷ []
+
+-- its entries
 unfoldable pub savedForm : List Entry
-savedForm =
-    run iaAt 1 iaWidth 0
-    ++ (run lecomAddressAt 1 lecomWidth 0
-    ++ (run loveAddressAt 1 loveAddressWidth 0
-    ++ (run savedRegistersAt registers registerWidth registerBias
-    ++ (run savedParametersAt parameterCount parameterWidth 0
-    ++ run loveAt loveCount loveWidth loveBias))))
+savedForm = entriesIn savedRuns
 
 -- a table has an entry for word k
 unfoldable pub holds : List Entry → ℕ → Bool

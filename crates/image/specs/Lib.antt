@@ -1,4 +1,5 @@
 pub mod Form
+pub mod Scans
 pub mod Saved
 pub mod Ranges
 pub mod Entries

@@ -8,8 +8,7 @@ use Rattle.wire.specs.Choose.{choose}
 use Rattle.wire.specs.Word.{minus}
 use Rattle.card.specs.Layout.{savedRegistersAt}
 use Rattle.card.specs.Fitness.{inSpan, inRange}
-use Rattle.image.specs.declared.form.Entry.{Entry}
-use Rattle.image.specs.Form.{registerBias}
+use Rattle.image.specs.Form.{Entry, registerBias}
 use Rattle.image.specs.Saved.{wordOf}
 
 -- the word x of an entry is in the entry's range

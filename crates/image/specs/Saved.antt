@@ -6,8 +6,7 @@ use Rattle.wire.specs.Word.{wordValues, minus}
 use Rattle.bits.specs.Bits.{field}
 use Rattle.bits.specs.Fields.{fields, putFields}
 use Rattle.card.specs.Layout.{Card, withWords}
-use Rattle.image.specs.declared.form.Entry.{Entry}
-use Rattle.image.specs.Form.{savedForm, widths, used, padding, imageSize}
+use Rattle.image.specs.Form.{Entry, savedForm, widths, used, padding, imageSize}
 
 -- "value plus ..": what stands in the field of an entry whose word is x. A word is in two's complement, so the sum is taken modulo its values
 unfoldable pub fieldOf : Entry → ℕ → ℕ
@@ -22,6 +21,10 @@ unfoldable pub values : List Entry → List ℕ → List ℕ
 values [] ws = []
 values (e ∷ form) ws = fieldOf e (getD ws (e .word) 0) ∷ values form ws
 
+-- the image with what stands in the entries' fields, from place p on
+abbrev pub putEntries : List Entry → List ℕ → List ℕ → ℕ → List ℕ
+putEntries form ws img p = putFields img p (widths form) (values form ws)
+
 -- the words with those of the entries replaced
 unfoldable pub replaced : List Entry → List ℕ → List ℕ → List ℕ
 replaced [] ws vs = ws
@@ -30,7 +33,7 @@ replaced (e ∷ form) ws (v ∷ vs) = replaced form (set ws (e .word) (wordOf e 
 
 -- the image: the fields one after another from the first bit on; the bits after the last one are zero
 unfoldable pub imageOf : List ℕ → List ℕ
-imageOf ws = putFields (replicate imageSize 0) 0 (widths savedForm) (values savedForm ws)
+imageOf ws = putEntries savedForm ws (replicate imageSize 0) 0
 
 -- what stands in an image's fields
 unfoldable pub entriesOf : List ℕ → List ℕ

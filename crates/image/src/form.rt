@@ -1,7 +1,9 @@
 // The image's table. Document 01, "The saved image".
 use card::fitness::LOVE_DEPTH;
+use card::fitness::LOVE_MOST;
+use card::fitness::all_in;
+use card::fitness::fit_parameters;
 use card::fitness::in_range;
-use card::fitness::in_span;
 use card::layout::IA;
 use card::layout::LECOM_ADDRESS;
 use card::layout::LOVE;
@@ -11,14 +13,12 @@ use card::layout::PARAMETER_COUNT;
 use card::layout::REGISTERS;
 use card::layout::SAVED_PARAMETERS;
 use card::layout::SAVED_REGISTERS;
-use std::num::wrapping_add_u32;
-use std::num::wrapping_sub_u32;
 ghost use mathlib.Core.Path.{_≡_};
 ghost use Prim.Native.Nat.{_<_};
-ghost use lib.ListN.{length, getD};
-ghost use Rattle.image.specs.Form.{entryOf, savedForm};
-ghost use Rattle.image.specs.Saved.{fieldOf, wordOf};
-ghost use Rattle.image.specs.Ranges.{entryRight};
+ghost use lib.ListN.{length};
+ghost use Rattle.image.specs.Form.{savedForm};
+ghost use Rattle.image.specs.Scans.{runCount, runAt, firstOf, bitsOf};
+ghost use Rattle.image.specs.Ranges.{entriesRight};
 
 // The image's bytes, and the zero bits that it ends with.
 pub const IMAGE: usize = 293;
@@ -34,10 +34,8 @@ const LOVE_ADDRESS_WIDTH: usize = 10;
 
 const REGISTER_WIDTH: usize = 21;
 
-// The registers' range in this form is its own, from its least to its bias.
+// The registers' range in this form is its own: the bias is its greatest number too.
 const REGISTER_BIAS: u32 = 999_999;
-
-const REGISTER_LEAST: u32 = u32::MAX - REGISTER_BIAS + 1;
 
 const PARAMETER_WIDTH: usize = 32;
 
@@ -54,81 +52,117 @@ const FIRST_LOVE: usize = FIRST_PARAMETER + PARAMETER_COUNT;
 
 pub const ENTRIES: usize = FIRST_LOVE + LOVE_COUNT;
 
-// An entry: the word that it holds, the bits of its field, and what is added to the word there.
-pub struct Entry {
+// How many runs the form has, and the numbers of those before its last.
+pub const RUNS: usize = 6;
+
+const IA_RUN: usize = 0;
+
+const LECOM_RUN: usize = 1;
+
+const LOVE_ADDRESS_RUN: usize = 2;
+
+const REGISTER_RUN: usize = 3;
+
+const PARAMETER_RUN: usize = 4;
+
+// A run: how many words it holds, from which on, the bits of each one's field, and what is added to the word there.
+pub struct Run {
     pub word: usize,
+    pub count: usize,
     pub width: usize,
     pub bias: u32,
 }
 
-// The image's entries, in their order.
-pub fn entry_at(k: usize) -> Entry
-    requires { ⌜ k < length savedForm ⌝ }
-    ensures { λ r. ⌜ r ≡ getD savedForm k (entryOf 0 0 0) ⌝ }
+// The image's runs, in their order.
+pub fn run_at(k: usize) -> Run
+    requires { ⌜ k < runCount ⌝ }
+    ensures { λ r. ⌜ r ≡ runAt k ⌝ }
 {
-    if k == 0 {
-        return Entry {
+    if k == IA_RUN {
+        return Run {
             word: IA,
+            count: 1,
             width: IA_WIDTH,
             bias: 0,
         };
     }
-    if k == 1 {
-        return Entry {
+    if k == LECOM_RUN {
+        return Run {
             word: LECOM_ADDRESS,
+            count: 1,
             width: LECOM_WIDTH,
             bias: 0,
         };
     }
-    if k == 2 {
-        return Entry {
+    if k == LOVE_ADDRESS_RUN {
+        return Run {
             word: LOVE_ADDRESS,
+            count: 1,
             width: LOVE_ADDRESS_WIDTH,
             bias: 0,
         };
     }
-    if k < FIRST_PARAMETER {
-        return Entry {
-            word: SAVED_REGISTERS + (k - FIRST_REGISTER),
+    if k == REGISTER_RUN {
+        return Run {
+            word: SAVED_REGISTERS,
+            count: REGISTERS,
             width: REGISTER_WIDTH,
             bias: REGISTER_BIAS,
         };
     }
-    if k < FIRST_LOVE {
-        return Entry {
-            word: SAVED_PARAMETERS + (k - FIRST_PARAMETER),
+    if k == PARAMETER_RUN {
+        return Run {
+            word: SAVED_PARAMETERS,
+            count: PARAMETER_COUNT,
             width: PARAMETER_WIDTH,
             bias: 0,
         };
     }
-    Entry {
-        word: LOVE + (k - FIRST_LOVE),
+    Run {
+        word: LOVE,
+        count: LOVE_COUNT,
         width: LOVE_WIDTH,
         bias: LOVE_BIAS,
     }
 }
 
-// What stands in the field of an entry whose word is x.
-pub fn to_field(e: Entry, x: u32) -> u32
-    ensures { λ r. ⌜ r ≡ fieldOf e x ⌝ }
+// The number of a run's first entry.
+pub fn first_at(k: usize) -> usize
+    requires { ⌜ k < runCount ⌝ }
+    ensures { λ r. ⌜ r ≡ firstOf k ⌝ }
 {
-    wrapping_add_u32(x, e.bias)
-}
-
-// The word of an entry in whose field v stands.
-pub fn from_field(e: Entry, v: u32) -> u32
-    ensures { λ r. ⌜ r ≡ wordOf e v ⌝ }
-{
-    wrapping_sub_u32(v, e.bias)
-}
-
-// Whether the word x of an entry is in the entry's range.
-pub fn entry_right(e: Entry, x: u32) -> bool
-    ensures { λ r. ⌜ r ≡ entryRight e x ⌝ }
-{
-    let word = e.word;
-    if SAVED_REGISTERS <= word {
-        return in_span(x, REGISTER_LEAST, REGISTER_BIAS);
+    if k <= REGISTER_RUN {
+        return k;
     }
-    in_range(word, x)
+    if k == PARAMETER_RUN {
+        return FIRST_PARAMETER;
+    }
+    FIRST_LOVE
+}
+
+// The bits of a run.
+pub fn bits_at(k: usize) -> usize
+    requires { ⌜ k < runCount ⌝ }
+    ensures { λ r. ⌜ r ≡ bitsOf k ⌝ }
+{
+    let run = run_at(k);
+    run.count * run.width
+}
+
+// Whether every entry in whose field one of the values stands is in its range. A run with a bias is judged with it: from 0 on.
+pub fn entries_right(values: &[u32]) -> bool
+    requires { ⌜ length (now values) ≡ length savedForm ⌝ }
+    ensures { λ r. ⌜ r ≡ entriesRight savedForm (now (values .entry)) ⌝ }
+{
+    let ia = in_range(IA, values[IA_RUN]);
+    let lecom = in_range(LECOM_ADDRESS, values[LECOM_RUN]);
+    let love = in_range(LOVE_ADDRESS, values[LOVE_ADDRESS_RUN]);
+    let registers = all_in(
+        &values[FIRST_REGISTER..FIRST_PARAMETER],
+        0,
+        REGISTER_BIAS + REGISTER_BIAS,
+    );
+    let parameters = fit_parameters(&values[FIRST_PARAMETER..FIRST_LOVE]);
+    let limits = all_in(&values[FIRST_LOVE..ENTRIES], 0, LOVE_MOST + LOVE_BIAS);
+    ia & (lecom & (love & (registers & (parameters & limits))))
 }
