@@ -1,4 +1,6 @@
 pub mod Held
+pub mod Holding
 pub mod Lent
 pub mod Parted
+pub mod Standing
 pub mod Stepped

@@ -11,13 +11,12 @@ use card::layout::PENDING;
 use card::layout::WORDS;
 use lines::ANSWER_MOST;
 use lines::BYTES_MOST;
-use lines::ROOM_MOST;
 use lines::UNREAD;
 use lines::line;
 use lines::text;
 ghost use Prim.Native.Nat.{_≤_, _<_};
 ghost use lib.ListN.{length};
-ghost use Rattle.lines.specs.Lent.{lineMost, answerMost};
+ghost use Rattle.lines.specs.Lent.{lineMost, answerMost, roomMost};
 
 // The largest CHANNEL and CODE.
 const BYTE_MOST: u32 = 255;
@@ -96,44 +95,40 @@ fn deliver(
     }
 }
 
-// datalink, lecom, love or lucid ROOM BYTES
+// datalink, lecom, love or lucid ROOM BYTES: the frame goes to f, the answer to g.
 fn answer_frame(
     dialect: Dialect,
     words: &mut [u32; WORDS],
     memory: &mut [u8; MEMORY],
     pending: &mut [u8; PENDING],
     s: &[u8],
+    f: &mut [u8; BYTES_MOST],
+    g: &mut [u8],
     out: &mut [u8; ANSWER_MOST],
 ) -> usize
-    requires { ⌜ length (now s) ≤ lineMost ⌝ }
+    requires { ⌜ (length (now s) ≤ lineMost) × (roomMost ≤ length (now g)) ⌝ }
     ensures { λ r. ⌜ r < answerMost ⌝ }
 {
-    let mut f = [0u8; BYTES_MOST];
-    let a = arguments::room_and_bytes(s, &mut f);
+    let a = arguments::room_and_bytes(s, f);
     if !a.right {
         return UNREAD;
     }
-    let mut answer = [0u8; ROOM_MOST];
     let n = a.count;
     let room = a.room;
-    let given = deliver(
-        dialect,
-        words,
-        memory,
-        pending,
-        &f[..n],
-        &mut answer[..room],
-    );
-    text::tell(out, given.number, &answer, given.len)
+    let frame: &[u8] = f;
+    let given = deliver(dialect, words, memory, pending, &frame[..n], &mut g[..room]);
+    text::tell(out, given.number, &g[..room], given.len)
 }
 
-// A call of an entry of the card, with the words s after its name.
+// A call of an entry of the card, with the words s after its name, and two buffers whose bytes do not count.
 pub fn run(
     call: CardCall,
     words: &mut [u32; WORDS],
     memory: &mut [u8; MEMORY],
     pending: &mut [u8; PENDING],
     s: &[u8],
+    f: &mut [u8; BYTES_MOST],
+    g: &mut [u8; BYTES_MOST],
     out: &mut [u8; ANSWER_MOST],
 ) -> usize
     requires { ⌜ length (now s) ≤ lineMost ⌝ }
@@ -143,6 +138,6 @@ pub fn run(
         CardCall::Probe => probe(words, memory, pending, s, out),
         CardCall::Restart => restart(words, memory, pending, s, out),
         CardCall::Governor => tell_governor(words, memory, pending, s, out),
-        CardCall::Frame(dialect) => answer_frame(dialect, words, memory, pending, s, out),
+        CardCall::Frame(dialect) => answer_frame(dialect, words, memory, pending, s, f, g, out),
     }
 }

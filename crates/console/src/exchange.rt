@@ -3,7 +3,6 @@ use crate::arguments;
 use crate::call::ExchangeCall;
 use lines::ANSWER_MOST;
 use lines::BYTES_MOST;
-use lines::ROOM_MOST;
 use lines::UNREAD;
 use lines::line;
 use lines::text;
@@ -140,29 +139,33 @@ fn read_request(s: &[u8], to: &mut [u8; BYTES_MOST], back: &mut [u8; BYTES_MOST]
     }
 }
 
-// request change IA ADDRESS BYTES or request bits IA ADDRESS MASKS / STATES. Its bytes are read apart: a line that cannot be read
-// leaves the kept ones as they are.
+// request change IA ADDRESS BYTES or request bits IA ADDRESS MASKS / STATES. Its bytes are read to f and g: a line that cannot be
+// read leaves the kept ones as they are.
 fn request(
     e: Exchange,
     s: &[u8],
     sent: &mut [u8; BYTES_MOST],
     states: &mut [u8; BYTES_MOST],
+    f: &mut [u8; BYTES_MOST],
+    g: &mut [u8; BYTES_MOST],
     out: &mut [u8; ANSWER_MOST],
 ) -> Answer
     requires { ⌜ (length (now s) ≤ lineMost) × Held (e .sent) (e .states) ⌝ }
     ensures { λ r. ⌜ Answered (r .len) (r .exchange .sent) (r .exchange .states) ⌝ }
 {
-    let mut f = [0u8; BYTES_MOST];
-    let mut g = [0u8; BYTES_MOST];
-    let new = read_request(s, &mut f, &mut g);
+    let new = read_request(s, f, g);
     if !new.asked {
         return Answer {
             len: UNREAD,
             exchange: e,
         };
     }
-    *sent = f;
-    *states = g;
+    let n = new.sent;
+    let m = new.states;
+    let first: &[u8] = f;
+    let second: &[u8] = g;
+    wire::copy(&first[..n], sent, 0);
+    wire::copy(&second[..m], states, 0);
     let len = text::put_words(out, 0, b"ok");
     Answer { len, exchange: new }
 }
@@ -229,39 +232,40 @@ fn come_to(e: Exchange, phase: Phase) -> Exchange
     }
 }
 
-// A step that could be read, with what was heard.
+// A step that could be read, with what was heard. The frame goes to g.
 fn take_step(
     e: Exchange,
     sent: &[u8; BYTES_MOST],
     states: &[u8; BYTES_MOST],
     heard: &[u8],
     room: usize,
+    g: &mut [u8],
     out: &mut [u8; ANSWER_MOST],
 ) -> Answer
-    requires { ⌜ Held (e .sent) (e .states) × (room ≤ roomMost) ⌝ }
+    requires { ⌜ Held (e .sent) (e .states) × ((room ≤ roomMost) × (roomMost ≤ length (now g))) ⌝ }
     ensures { λ r. ⌜ Answered (r .len) (r .exchange .sent) (r .exchange .states) ⌝ }
 {
-    let mut frame = [0u8; ROOM_MOST];
-    let went = go(e, sent, states, heard, &mut frame[..room]);
+    let went = go(e, sent, states, heard, &mut g[..room]);
     let phase = went.phase;
-    let len = tell_step(out, went.number, master::says(phase), &frame, went.len);
+    let len = tell_step(out, went.number, master::says(phase), &g[..room], went.len);
     let exchange = come_to(e, phase);
     Answer { len, exchange }
 }
 
-// step ROOM BYTES
+// step ROOM BYTES: what was heard goes to f.
 fn step(
     e: Exchange,
     s: &[u8],
     sent: &[u8; BYTES_MOST],
     states: &[u8; BYTES_MOST],
+    f: &mut [u8; BYTES_MOST],
+    g: &mut [u8; BYTES_MOST],
     out: &mut [u8; ANSWER_MOST],
 ) -> Answer
     requires { ⌜ (length (now s) ≤ lineMost) × Held (e .sent) (e .states) ⌝ }
     ensures { λ r. ⌜ Answered (r .len) (r .exchange .sent) (r .exchange .states) ⌝ }
 {
-    let mut f = [0u8; BYTES_MOST];
-    let a = arguments::room_and_bytes(s, &mut f);
+    let a = arguments::room_and_bytes(s, f);
     if !a.right {
         return Answer {
             len: UNREAD,
@@ -273,23 +277,26 @@ fn step(
         return Answer { len, exchange: e };
     }
     let n = a.count;
-    take_step(e, sent, states, &f[..n], a.room, out)
+    let heard: &[u8] = f;
+    take_step(e, sent, states, &heard[..n], a.room, g, out)
 }
 
-// A call of the line master, with the words s after its name.
+// A call of the line master, with the words s after its name, and two buffers whose bytes do not count.
 pub fn run(
     call: ExchangeCall,
     e: Exchange,
     s: &[u8],
     sent: &mut [u8; BYTES_MOST],
     states: &mut [u8; BYTES_MOST],
+    f: &mut [u8; BYTES_MOST],
+    g: &mut [u8; BYTES_MOST],
     out: &mut [u8; ANSWER_MOST],
 ) -> Answer
     requires { ⌜ (length (now s) ≤ lineMost) × Held (e .sent) (e .states) ⌝ }
     ensures { λ r. ⌜ Answered (r .len) (r .exchange .sent) (r .exchange .states) ⌝ }
 {
     match call {
-        ExchangeCall::Request => request(e, s, sent, states, out),
-        ExchangeCall::Step => step(e, s, sent, states, out),
+        ExchangeCall::Request => request(e, s, sent, states, f, g, out),
+        ExchangeCall::Step => step(e, s, sent, states, f, g, out),
     }
 }

@@ -12,63 +12,67 @@ use lines::line;
 use lines::text;
 ghost use Prim.Native.Nat.{_≤_, _<_};
 ghost use lib.ListN.{length};
-ghost use Rattle.lines.specs.Lent.{lineMost, answerMost};
+ghost use Rattle.lines.specs.Lent.{lineMost, answerMost, roomMost};
 
-// save ROOM
+// save ROOM: the image goes to g.
 fn save(
     words: &[u32; WORDS],
     memory: &[u8; MEMORY],
     pending: &[u8; PENDING],
     s: &[u8],
+    g: &mut [u8],
     out: &mut [u8; ANSWER_MOST],
 ) -> usize
+    requires { ⌜ roomMost ≤ length (now g) ⌝ }
     ensures { λ r. ⌜ r < answerMost ⌝ }
 {
     let number = arguments::last_number(s, 0, ROOM_MOST as u32);
     if !number.right {
         return UNREAD;
     }
-    let mut answer = [0u8; ROOM_MOST];
     let room = number.value as usize;
-    let given = image::write_image(words, memory, pending, &mut answer[..room]);
-    text::tell(out, given.number, &answer, given.len)
+    let given = image::write_image(words, memory, pending, &mut g[..room]);
+    text::tell(out, given.number, &g[..room], given.len)
 }
 
-// load BYTES
+// load BYTES: they go to f.
 fn load(
     words: &mut [u32; WORDS],
     memory: &[u8; MEMORY],
     pending: &[u8; PENDING],
     s: &[u8],
+    f: &mut [u8; BYTES_MOST],
     out: &mut [u8; ANSWER_MOST],
 ) -> usize
     requires { ⌜ length (now s) ≤ lineMost ⌝ }
     ensures { λ r. ⌜ r < answerMost ⌝ }
 {
-    let mut f = [0u8; BYTES_MOST];
-    let bytes = line::read_bytes(s, 0, &mut f);
+    let bytes = line::read_bytes(s, 0, f);
     if bytes.next < s.len() {
         return UNREAD;
     }
     let n = bytes.count;
-    let number = image::read_image(words, memory, pending, &f[..n]);
+    let image: &[u8] = f;
+    let number = image::read_image(words, memory, pending, &image[..n]);
     text::tell_number(out, number)
 }
 
-// A call of an entry of the image, with the words s after its name.
+// A call of an entry of the image, with the words s after its name, and two buffers whose bytes do not count.
 pub fn run(
     call: ImageCall,
     words: &mut [u32; WORDS],
     memory: &[u8; MEMORY],
     pending: &[u8; PENDING],
     s: &[u8],
+    f: &mut [u8; BYTES_MOST],
+    g: &mut [u8; BYTES_MOST],
     out: &mut [u8; ANSWER_MOST],
 ) -> usize
     requires { ⌜ length (now s) ≤ lineMost ⌝ }
     ensures { λ r. ⌜ r < answerMost ⌝ }
 {
     match call {
-        ImageCall::Save => save(words, memory, pending, s, out),
-        ImageCall::Load => load(words, memory, pending, s, out),
+        ImageCall::Save => save(words, memory, pending, s, g, out),
+        ImageCall::Load => load(words, memory, pending, s, f, out),
     }
 }

@@ -9,15 +9,16 @@ use crate::image_calls;
 use crate::input;
 use crate::input::Input;
 use crate::input::READ_MOST;
+use crate::output;
+use crate::output::HELD_MOST;
 use crate::question;
+use crate::question::Question;
 use crate::table_calls;
 use card::layout::MEMORY;
 use card::layout::PENDING;
 use card::layout::WORDS;
-use libc::STDOUT_FILENO;
 use lines::ANSWER_MOST;
 use lines::BYTES_MOST;
-use lines::LINE_FEED;
 use lines::LINE_MOST;
 use lines::UNREAD;
 use lines::text;
@@ -26,11 +27,22 @@ ghost use Prim.Native.Nat.{_≤_, _<_};
 ghost use lib.ListN.{length};
 ghost use Rattle.lines.specs.Lent.{lineMost, answerMost};
 ghost use Rattle.console.specs.Held.{Held, Answered};
-ghost use Rattle.console.specs.Lent.{readMost};
+ghost use Rattle.console.specs.Holding.{Longer};
+ghost use Rattle.console.specs.Parted.{Parted};
+ghost use Rattle.console.specs.Standing.{Standing};
 
-// Where the console stands: whether it goes on, what is read, and the line master's exchange.
+// Whether the console goes on; and if not, why.
+pub enum Going {
+    On,
+    Over,
+    NotRead,
+    NotWritten,
+}
+
+// Where the console stands: whether it goes on, how many bytes of answers are held, what is read, and the line master's exchange.
 pub struct State {
-    pub going: bool,
+    pub going: Going,
+    pub held: usize,
     pub input: Input,
     pub exchange: Exchange,
 }
@@ -53,14 +65,16 @@ fn run_here(
     memory: &mut [u8; MEMORY],
     pending: &mut [u8; PENDING],
     s: &[u8],
+    f: &mut [u8; BYTES_MOST],
+    g: &mut [u8; BYTES_MOST],
     out: &mut [u8; ANSWER_MOST],
 ) -> usize
     requires { ⌜ length (now s) ≤ lineMost ⌝ }
     ensures { λ r. ⌜ r < answerMost ⌝ }
 {
     match call {
-        Call::Card(asked) => card_calls::run(asked, words, memory, pending, s, out),
-        Call::Image(asked) => image_calls::run(asked, words, memory, pending, s, out),
+        Call::Card(asked) => card_calls::run(asked, words, memory, pending, s, f, g, out),
+        Call::Image(asked) => image_calls::run(asked, words, memory, pending, s, f, g, out),
         Call::Tables(asked) => table_calls::run(asked, words, memory, pending, s, out),
         Call::Help => help(s, out),
         _ => UNREAD,
@@ -77,15 +91,17 @@ fn run(
     states: &mut [u8; BYTES_MOST],
     e: Exchange,
     s: &[u8],
+    f: &mut [u8; BYTES_MOST],
+    g: &mut [u8; BYTES_MOST],
     out: &mut [u8; ANSWER_MOST],
 ) -> Answer
     requires { ⌜ (length (now s) ≤ lineMost) × Held (e .sent) (e .states) ⌝ }
     ensures { λ r. ⌜ Answered (r .len) (r .exchange .sent) (r .exchange .states) ⌝ }
 {
     if let Call::Exchange(asked) = call {
-        return exchange::run(asked, e, s, sent, states, out);
+        return exchange::run(asked, e, s, sent, states, f, g, out);
     }
-    let len = run_here(call, words, memory, pending, s, out);
+    let len = run_here(call, words, memory, pending, s, f, g, out);
     Answer { len, exchange: e }
 }
 
@@ -119,27 +135,41 @@ fn say(
     refuse(call, line, from, stop, out)
 }
 
-// Writes the answer line with its line feed, and none where nothing is asked: whether it could be written.
+// Holds the answer line with its line feed, and none where nothing is asked: how many bytes are held then.
 fn tell(
-    call: Call,
+    question: Question,
     line: &[u8],
-    from: usize,
-    stop: usize,
     len: usize,
     out: &mut [u8; ANSWER_MOST],
-) -> bool
-    requires { ⌜ (from ≤ stop) × ((stop ≤ length (now line)) × (len < answerMost)) ⌝ }
+    held: &mut [u8; HELD_MOST],
+    n: usize,
+) -> usize
+    requires { ⌜ Parted (question .from) (question .stop) (question .next) (question .end) (length (now line)) × ((len < answerMost) × (n ≤ answerMost)) ⌝ }
+    ensures { λ r. ⌜ Longer n (now (held .entry)) r (now (held .exit)) ⌝ }
 {
+    let call = question.call;
     if let Call::Nothing = call {
-        return true;
+        return n;
     }
-    let n = say(call, line, from, stop, len, out);
-    out[n] = LINE_FEED;
-    let answer: &[u8] = out;
-    io::write_all(STDOUT_FILENO, &answer[..n + 1])
+    let said = say(call, line, question.from, question.stop, len, out);
+    output::hold(held, n, out, said)
 }
 
-// Reads on, and answers the line if it is whole.
+// Whether the console goes on, after what was read and written.
+fn goes_on(over: bool, failed: bool, written: bool) -> Going {
+    if !written {
+        return Going::NotWritten;
+    }
+    if failed {
+        return Going::NotRead;
+    }
+    if over {
+        return Going::Over;
+    }
+    Going::On
+}
+
+// Reads on, and answers the line if it is whole. Nothing is held when the buffer is filled again.
 pub fn go_on(
     words: &mut [u32; WORDS],
     memory: &mut [u8; MEMORY],
@@ -148,11 +178,14 @@ pub fn go_on(
     states: &mut [u8; BYTES_MOST],
     buffer: &mut [u8; READ_MOST],
     text: &mut [u8; LINE_MOST],
+    f: &mut [u8; BYTES_MOST],
+    g: &mut [u8; BYTES_MOST],
     out: &mut [u8; ANSWER_MOST],
+    held: &mut [u8; HELD_MOST],
     state: State,
 ) -> State
-    requires { ⌜ (state .input .end ≤ readMost) × Held (state .exchange .sent) (state .exchange .states) ⌝ }
-    ensures { λ r. ⌜ (r .input .end ≤ readMost) × Held (r .exchange .sent) (r .exchange .states) ⌝ }
+    requires { ⌜ Standing (state .input .at) (state .input .end) (state .held) × Held (state .exchange .sent) (state .exchange .states) ⌝ }
+    ensures { λ r. ⌜ Standing (r .input .at) (r .input .end) (r .held) × Held (r .exchange .sent) (r .exchange .states) ⌝ }
 {
     let e = state.exchange;
     let taken = state.input;
@@ -171,12 +204,16 @@ pub fn go_on(
         states,
         e,
         &line[next..end],
+        f,
+        g,
         out,
     );
-    let written = tell(call, line, question.from, question.stop, did.len, out);
+    let n = tell(question, line, did.len, out, held, state.held);
+    let kept = output::settle(held, n, input.at < input.end);
     let exchange = did.exchange;
     State {
-        going: written & !input.over,
+        going: goes_on(input.over, input.failed, kept.written),
+        held: kept.held,
         input,
         exchange,
     }

@@ -1,11 +1,13 @@
 // Hex figures, decimal figures and signed words: read from characters and written as characters.
 ghost use mathlib.Core.Path.{_≡_};
-ghost use Prim.Native.Nat.{_+_, _<_, _≤_};
+ghost use mathlib.Core.Bool.{true};
+ghost use Prim.Native.Nat.{_+_, _%_, _<_, _≤_};
+ghost use lib.Dec.{ltb};
 ghost use lib.ListN.{length};
 ghost use Rattle.wire.specs.Choose.{choose};
 ghost use Rattle.wire.specs.Buffer.{put};
 ghost use Rattle.wire.specs.Length.{between};
-ghost use Rattle.figures.specs.Figure.{base, figureOf, charOf, allFigures, pairByte, pairOf};
+ghost use Rattle.figures.specs.Figure.{base, hex, figureOf, charOf, allFigures, pairByte, pairOf};
 ghost use Rattle.figures.specs.Decimal.{digits, sizeOf, valueOf, longestValue};
 ghost use Rattle.figures.specs.Signed.{isNegative, magnitude, withSign, longestText, textOf, figuresOf, parsedOf};
 
@@ -24,6 +26,11 @@ const VALUE_BASE: u64 = DECIMAL as u64;
 const HEX_BASE: u8 = 16;
 
 const PAIR_BASE: u32 = HEX_BASE as u32;
+
+// Letters are from this character on, decimal figures before it. The low half of A and of a is 1, the value 9 more.
+const LETTERS: u8 = 64;
+
+const LETTER_MORE: u8 = 9;
 
 // What lower case adds to a figure.
 const LOWER: u8 = 16;
@@ -100,6 +107,32 @@ pub fn pair_byte(high: u8, low: u8, limit: u8) -> u32
         return NO_BYTE;
     }
     PAIR_BASE * ((h % HEX_BASE) as u32) + ((l % HEX_BASE) as u32)
+}
+
+// Whether a character is a hex figure of either case. It branches nowhere, since nothing foretells the figures of a line.
+fn is_hex(b: u8) -> bool
+    ensures { λ r. ⌜ r ≡ ltb (figureOf b) hex ⌝ }
+{
+    in_range(b'0', b'9', b) | (in_range(b'A', b'F', b) | in_range(b'a', b'f', b))
+}
+
+// The value of a hex figure: its low half, and more for a letter.
+fn hex_value(b: u8) -> u8
+    requires { ⌜ ltb (figureOf b) hex ≡ true ⌝ }
+    ensures { λ r. ⌜ r ≡ figureOf b % base ⌝ }
+{
+    b % HEX_BASE + LETTER_MORE * (b / LETTERS)
+}
+
+// The byte that two hex figures of either case are, or NO_BYTE.
+pub fn hex_byte(high: u8, low: u8) -> u32
+    ensures { λ r. ⌜ r ≡ pairByte hex high low ⌝ }
+{
+    let right = is_hex(high) & is_hex(low);
+    if !right {
+        return NO_BYTE;
+    }
+    PAIR_BASE * (hex_value(high) as u32) + (hex_value(low) as u32)
 }
 
 // Writes the two upper-case characters of v.

@@ -2,14 +2,13 @@
 use crate::LINE_MOST;
 use crate::text::SPACE;
 use figures::DECIMAL;
-use figures::HEX;
 use figures::NO_BYTE;
 ghost use mathlib.Core.Path.{_≡_};
 ghost use Prim.Native.Nat.{_+_, _*_, _≤_, _<_};
 ghost use lib.ListN.{length};
 ghost use Rattle.wire.specs.Buffer.{same};
 ghost use Rattle.figures.specs.Figure.{noByte};
-ghost use Rattle.lines.specs.Lent.{lineMost};
+ghost use Rattle.lines.specs.Lent.{lineMost, Joined};
 
 const MINUS: u8 = b'-';
 
@@ -24,15 +23,19 @@ const PAIR: usize = 2;
 // The largest magnitude of a negative number.
 const HALF: u32 = 2147483648;
 
-// A byte that does not end the line joins it. Of a line that is too long only its length is kept, one above the longest.
-pub fn join(text: &mut [u8], n: usize, b: u8) -> usize
+// Bytes that do not end the line join it. Of a line that is too long only its length is kept, one above the longest.
+pub fn join(text: &mut [u8], n: usize, bytes: &[u8]) -> usize
     requires { ⌜ length (now text) ≡ lineMost ⌝ }
+    ensures { λ r. ⌜ Joined n (now (bytes .entry)) (now (text .entry)) r (now (text .exit)) ⌝ }
 {
-    if n < text.len() {
-        text[n] = b;
-        return n + 1;
+    if text.len() < n {
+        return LINE_MOST + 1;
     }
-    LINE_MOST + 1
+    if text.len() - n < bytes.len() {
+        return LINE_MOST + 1;
+    }
+    wire::copy(bytes, text, n);
+    n + bytes.len()
 }
 
 // The first place from at on where s has b, or, where has is false, another byte; else the end of s.
@@ -159,11 +162,16 @@ fn byte_at(s: &[u8], at: usize) -> u32
     requires { ⌜ at < length (now s) ⌝ }
     ensures { λ r. ⌜ (r ≤ noByte) × ((r < noByte → at + 2 ≤ length (now (s .entry)))) ⌝ }
 {
-    let end = word_end(s, at);
-    if end - at != PAIR {
+    let left = s.len() - at;
+    if left < PAIR {
         return NO_BYTE;
     }
-    figures::pair_byte(s[at], s[at + 1], HEX)
+    if PAIR < left {
+        if s[at + PAIR] != SPACE {
+            return NO_BYTE;
+        }
+    }
+    figures::hex_byte(s[at], s[at + 1])
 }
 
 // Bytes read from a line: how many there are, and where the first word starts that is none.

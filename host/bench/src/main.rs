@@ -3,6 +3,7 @@
 mod archive;
 mod callgrind;
 mod calls;
+mod console;
 mod frames;
 mod groups;
 mod report;
@@ -14,7 +15,8 @@ use std::process::ExitCode;
 
 use groups::{Group, Plan, Start};
 
-const USAGE: &str = "bench agree | count | report DUMPS DISASSEMBLY | calls DUMPS (host/bench/run does all)";
+const USAGE: &str =
+    "bench agree | count | report DUMPS DISASSEMBLY | console FOLDER | calls DUMPS (host/bench/run does all)";
 
 fn main() -> ExitCode {
     let words: Vec<String> = std::env::args().skip(1).collect();
@@ -24,6 +26,7 @@ fn main() -> ExitCode {
         ["agree"] => agree(&plan),
         ["count"] => callgrind::count_all(&plan),
         ["report", dumps, disassembly] => report(&plan, Path::new(dumps), Path::new(disassembly)),
+        ["console", folder] => report::console(&plan, Path::new(folder)),
         ["calls", dumps] => calls(&plan, Path::new(dumps)),
         _ => {
             eprintln!("{USAGE}");

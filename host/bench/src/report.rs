@@ -2,9 +2,11 @@
 
 use std::cmp::Reverse;
 use std::collections::HashMap;
+use std::path::Path;
 
 use crate::callgrind::Cost;
 use crate::calls::Entry;
+use crate::console;
 use crate::groups::{Case, Group, Plan, LONGEST_INTERROGATE};
 use crate::stack::Frames;
 use crate::time::ratio;
@@ -12,6 +14,8 @@ use crate::time::ratio;
 /// What is aimed at: no more instructions than the second program's, and as many for fitness alone.
 const RATIO_AIM: f64 = 1.0;
 const FITNESS_AIM: u64 = 430;
+/// And of the second program's time for the console.
+const CONSOLE_AIM: f64 = 1.5;
 
 /// How a figure stands to its aim.
 fn verdict(is_met: bool) -> &'static str {
@@ -204,6 +208,21 @@ pub fn times(plan: &Plan) {
             group.name, ratio.median, ratio.lower, ratio.upper
         );
     }
+}
+
+/// The console's time.
+pub fn console(plan: &Plan, folder: &Path) {
+    let (ratio, lines) = console::ratio(plan, folder).expect("both programs can be run");
+    println!("\n## The console\n");
+    println!("| Script | Lines | Median | Middle half of the turns | Aim: {CONSOLE_AIM:.1} |");
+    println!("|---|---|---|---|---|");
+    println!(
+        "| the calls of the tables above, again and again | {lines} | {:.2} | {:.2} to {:.2} | {} |",
+        ratio.median,
+        ratio.lower,
+        ratio.upper,
+        verdict(ratio.median <= CONSOLE_AIM)
+    );
 }
 
 /// Every call by itself.

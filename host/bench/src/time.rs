@@ -10,11 +10,24 @@ use crate::groups::{Case, Group};
 const TURNS: usize = 400;
 const ROUNDS: usize = 20;
 
-/// Quartiles of the library's time divided by the second program's, turn by turn.
+/// Quartiles of one side's time divided by the second program's, turn by turn.
 pub struct Ratio {
     pub lower: f64,
     pub median: f64,
     pub upper: f64,
+}
+
+impl Ratio {
+    /// The quartiles of all turns.
+    pub fn of(mut ratios: Vec<f64>) -> Self {
+        ratios.sort_by(f64::total_cmp);
+        let quartile = |quarters| ratios[ratios.len() * quarters / 4];
+        Self {
+            lower: quartile(1),
+            median: quartile(2),
+            upper: quartile(3),
+        }
+    }
 }
 
 /// Measures a group.
@@ -22,7 +35,7 @@ pub fn ratio(group: &Group) -> Ratio {
     let thunks = |side| -> Vec<Thunk> { group.cases.iter().map(|case| thunk(side, case.request.entry)).collect() };
     let (archive, second) = (thunks(Side::Archive), thunks(Side::Second));
     let mut bed = group.bed();
-    let mut ratios: Vec<f64> = (0..TURNS)
+    let ratios = (0..TURNS)
         .map(|turn| {
             // Who begins changes from turn to turn.
             let (one, other) = if turn % 2 == 0 {
@@ -38,12 +51,7 @@ pub fn ratio(group: &Group) -> Ratio {
             archive.as_secs_f64() / second.as_secs_f64()
         })
         .collect();
-    ratios.sort_by(f64::total_cmp);
-    Ratio {
-        lower: ratios[TURNS / 4],
-        median: ratios[TURNS / 2],
-        upper: ratios[TURNS * 3 / 4],
-    }
+    Ratio::of(ratios)
 }
 
 /// The time of one turn.

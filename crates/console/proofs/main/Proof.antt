@@ -1,18 +1,18 @@
 -- `console::main` meets its contract. Assumes nothing.
-use Prim.Native.Nat.{_≤_}
 use mathlib.Core.Path.{refl}
+use mathlib.Core.Logic.{inr}
 use Rattle.console.specs.Held.{Held}
-use Rattle.console.specs.Lent.{readMost}
+use Rattle.console.specs.Standing.{Standing}
 use borrow.Author.Needs.{needs}
 use Rattle.console.proofs.main.Statement.{statement}
 use Rattle.console.proofs.main.Tie as tie
 
 abbrev Inv-loop : tie.InvT-loop
-Inv-loop words₀ memory₀ pending₀ sent₀ states₀ buffer₀ text₀ out₀ state₀ turns₀ words memory pending sent states buffer text out state turns =
-    (state .input .end ≤ readMost) × Held (state .exchange .sent) (state .exchange .states)
+Inv-loop words₀ memory₀ pending₀ sent₀ states₀ buffer₀ text₀ f₀ g₀ out₀ held₀ state₀ turns₀ words memory pending sent states buffer text f g out held state turns =
+    Standing (state .input .at) (state .input .end) (state .held) × Held (state .exchange .sent) (state .exchange .states)
 
 abbrev μ-loop : tie.MeasureT-loop
-μ-loop words₀ memory₀ pending₀ sent₀ states₀ buffer₀ text₀ out₀ state₀ turns₀ words memory pending sent states buffer text out state turns = turns
+μ-loop words₀ memory₀ pending₀ sent₀ states₀ buffer₀ text₀ f₀ g₀ out₀ held₀ state₀ turns₀ words memory pending sent states buffer text f g out held state turns = turns
 
 slice-aggregate-start-words : tie.Need-slice-aggregate-start-words Inv-loop μ-loop
 slice-aggregate-start-words c = search needs
@@ -33,7 +33,7 @@ none-requires-2 : tie.Need-none-requires-2 Inv-loop μ-loop
 none-requires-2 c κs = tt
 
 loop-holds : tie.Need-loop-holds Inv-loop μ-loop
-loop-holds c = search needs
+loop-holds c = (record { before = search needs; inside = search needs; room = search needs; told = inr refl }, search needs)
 
 go-on-requires : tie.Need-go-on-requires Inv-loop μ-loop
 go-on-requires c κs = search needs
@@ -46,6 +46,9 @@ loop-less c = search needs
 
 loop-again : tie.Need-loop-again Inv-loop μ-loop
 loop-again c = search needs
+
+report-requires : tie.Need-report-requires Inv-loop μ-loop
+report-requires c κs = search needs
 
 returns : tie.Need-returns Inv-loop μ-loop
 returns c = search needs
@@ -67,4 +70,5 @@ main-spec =
     left-requires
     loop-less
     loop-again
+    report-requires
     returns)

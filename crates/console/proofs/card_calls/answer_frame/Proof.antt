@@ -1,5 +1,5 @@
 -- `console::card_calls::answer_frame` meets its contract. Assumes nothing.
-use lib.ListN.{length-take, length-drop, length-append}
+use lib.ListN.{length-take, length-append}
 use native.Mathlib.Omega.{arith}
 use borrow.Author.Needs.{needs}
 use Rattle.console.proofs.card_calls.answer_frame.Statement.{statement}
@@ -11,14 +11,11 @@ room-and-bytes-requires c κs = search needs
 returns : tie.Need-returns
 returns c = search needs
 
-array-share-prefix-f : tie.Need-array-share-prefix-f
-array-share-prefix-f c = search needs
-
 slice-aggregate-deliver : tie.Need-slice-aggregate-deliver
 slice-aggregate-deliver c = simp length-take (omega arith)
 
-array-borrow-prefix-answer : tie.Need-array-borrow-prefix-answer
-array-borrow-prefix-answer c = search needs
+slice-relend-prefix-deliver : tie.Need-slice-relend-prefix-deliver
+slice-relend-prefix-deliver c = search needs
 
 slice-aggregate-deliver-2 : tie.Need-slice-aggregate-deliver-2
 slice-aggregate-deliver-2 c = simp length-take (omega arith)
@@ -26,11 +23,19 @@ slice-aggregate-deliver-2 c = simp length-take (omega arith)
 deliver-requires : tie.Need-deliver-requires
 deliver-requires c κs = search needs
 
+slice-reshare-prefix-tell : tie.Need-slice-reshare-prefix-tell
+slice-reshare-prefix-tell c = search needs
+
 slice-aggregate-tell : tie.Need-slice-aggregate-tell
-slice-aggregate-tell c = let kept = simp length-take at (c .before .before .before .deliver .kept) in simp (length-append, length-drop) (omega arith)
+slice-aggregate-tell c = simp length-take (omega arith)
 
 tell-requires : tie.Need-tell-requires
-tell-requires c κs = ((simp length-append (omega arith), omega (arith, slice-aggregate-tell c)), search needs)
+tell-requires c κs =
+    let kept = simp length-take at (c .before .before .before .before .deliver .kept) in
+    ((simp (length-take, length-append) (omega arith), simp length-take (omega arith)), search needs)
+
+same-length : tie.Need-same-length
+same-length c = search needs
 
 returns-2 : tie.Need-returns-2
 returns-2 c = search needs
@@ -41,11 +46,12 @@ answer-frame-spec =
     (tie.spec
     room-and-bytes-requires
     returns
-    array-share-prefix-f
     slice-aggregate-deliver
-    array-borrow-prefix-answer
+    slice-relend-prefix-deliver
     slice-aggregate-deliver-2
     deliver-requires
+    slice-reshare-prefix-tell
     slice-aggregate-tell
     tell-requires
+    same-length
     returns-2)

@@ -20,9 +20,6 @@ put-words-requires c κs = search needs
 returns-2 : tie.Need-returns-2
 returns-2 c = search needs
 
-array-share-prefix-f : tie.Need-array-share-prefix-f
-array-share-prefix-f c = search needs
-
 slice-aggregate-take-step : tie.Need-slice-aggregate-take-step
 slice-aggregate-take-step c = simp length-take (omega arith)
 
@@ -41,7 +38,6 @@ step-spec =
     slice-aggregate-put-words
     put-words-requires
     returns-2
-    array-share-prefix-f
     slice-aggregate-take-step
     take-step-requires
     returns-3)

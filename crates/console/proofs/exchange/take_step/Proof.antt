@@ -1,12 +1,12 @@
 -- `console::exchange::take_step` meets its contract. Assumes nothing.
-use lib.ListN.{length-take, length-drop, length-append}
+use lib.ListN.{length-take, length-append}
 use native.Mathlib.Omega.{arith}
 use borrow.Author.Needs.{needs}
 use Rattle.console.proofs.exchange.take_step.Statement.{statement}
 use Rattle.console.proofs.exchange.take_step.Tie as tie
 
-array-borrow-prefix-frame : tie.Need-array-borrow-prefix-frame
-array-borrow-prefix-frame c = search needs
+slice-relend-prefix-go : tie.Need-slice-relend-prefix-go
+slice-relend-prefix-go c = search needs
 
 slice-aggregate-go : tie.Need-slice-aggregate-go
 slice-aggregate-go c = simp length-take (omega arith)
@@ -17,14 +17,22 @@ go-requires c κs = search needs
 says-requires : tie.Need-says-requires
 says-requires c κs = search needs
 
+slice-reshare-prefix-tell-step : tie.Need-slice-reshare-prefix-tell-step
+slice-reshare-prefix-tell-step c = search needs
+
 slice-aggregate-tell-step : tie.Need-slice-aggregate-tell-step
-slice-aggregate-tell-step c = let kept = simp length-take at (c .before .before .before .before .go .kept) in simp (length-append, length-drop) (omega arith)
+slice-aggregate-tell-step c = simp length-take (omega arith)
 
 tell-step-requires : tie.Need-tell-step-requires
-tell-step-requires c κs = (simp length-append (omega arith), omega (arith, slice-aggregate-tell-step c))
+tell-step-requires c κs =
+    let kept = simp length-take at (c .before .before .before .before .before .go .kept) in
+    (simp (length-take, length-append) (omega arith), simp length-take (omega arith))
 
 come-to-requires : tie.Need-come-to-requires
 come-to-requires c κs = search needs
+
+same-length : tie.Need-same-length
+same-length c = search needs
 
 returns : tie.Need-returns
 returns c = search needs
@@ -33,11 +41,13 @@ pub take-step-spec : {M : Type 1} → statement M
 take-step-spec =
     tie.close
     (tie.spec
-    array-borrow-prefix-frame
+    slice-relend-prefix-go
     slice-aggregate-go
     go-requires
     says-requires
+    slice-reshare-prefix-tell-step
     slice-aggregate-tell-step
     tell-step-requires
     come-to-requires
+    same-length
     returns)

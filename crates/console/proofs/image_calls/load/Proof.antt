@@ -5,17 +5,11 @@ use borrow.Author.Needs.{needs}
 use Rattle.console.proofs.image_calls.load.Statement.{statement}
 use Rattle.console.proofs.image_calls.load.Tie as tie
 
-slice-aggregate-read-bytes : tie.Need-slice-aggregate-read-bytes
-slice-aggregate-read-bytes c = search needs
-
 read-bytes-requires : tie.Need-read-bytes-requires
 read-bytes-requires c κs = search needs
 
 returns : tie.Need-returns
 returns c = search needs
-
-array-share-prefix-f : tie.Need-array-share-prefix-f
-array-share-prefix-f c = search needs
 
 slice-aggregate-read-image : tie.Need-slice-aggregate-read-image
 slice-aggregate-read-image c = simp length-take (omega arith)
@@ -33,10 +27,8 @@ pub load-spec : {M : Type 1} → statement M
 load-spec =
     tie.close
     (tie.spec
-    slice-aggregate-read-bytes
     read-bytes-requires
     returns
-    array-share-prefix-f
     slice-aggregate-read-image
     read-image-requires
     tell-number-requires

@@ -1,50 +1,55 @@
 -- `console::input::take` meets its contract. Assumes nothing.
-use Prim.Native.Nat.{_-_}
+use lib.ListN.{length-take}
+use native.Mathlib.Omega.{arith}
 use borrow.Author.Needs.{needs}
 use Rattle.console.proofs.input.take.Statement.{statement}
 use Rattle.console.proofs.input.take.Tie as tie
 
-abbrev Inv-loop : tie.InvT-loop
-Inv-loop buffer text₀ at end n at₀ n₀ text at' n' = Unit
+slice-aggregate-scan : tie.Need-slice-aggregate-scan
+slice-aggregate-scan c = simp length-take (omega arith)
 
-abbrev μ-loop : tie.MeasureT-loop
-μ-loop buffer text₀ at end n at₀ n₀ text at' n' = end - at'
+scan-requires : tie.Need-scan-requires
+scan-requires c κs = simp length-take (omega arith)
 
-loop-holds : tie.Need-loop-holds Inv-loop μ-loop
-loop-holds c = search needs
+sub-join : tie.Need-sub-join
+sub-join c = search needs
 
-element-copy-out-b : tie.Need-element-copy-out-b Inv-loop μ-loop
-element-copy-out-b c = search needs
+part-join-start : tie.Need-part-join-start
+part-join-start c = search needs
 
-add-at : tie.Need-add-at Inv-loop μ-loop
-add-at c = search needs
+part-join-end : tie.Need-part-join-end
+part-join-end c = let e = simp length-take at (c .before .scan .ensures) in omega arith
 
-returns : tie.Need-returns Inv-loop μ-loop
-returns c = search needs
-
-join-requires : tie.Need-join-requires Inv-loop μ-loop
+join-requires : tie.Need-join-requires
 join-requires c κs = search needs
 
-loop-less : tie.Need-loop-less Inv-loop μ-loop
-loop-less c = search needs
+add-reached : tie.Need-add-reached
+add-reached c = search needs
 
-loop-again : tie.Need-loop-again Inv-loop μ-loop
-loop-again c = search needs
+reached-requires : tie.Need-reached-requires
+reached-requires c κs = search needs
 
-returns-2 : tie.Need-returns-2 Inv-loop μ-loop
+returns : tie.Need-returns
+returns c = search needs
+
+reached-requires-2 : tie.Need-reached-requires-2
+reached-requires-2 c κs = let e = simp length-take at (c .before .before .before .before .scan .ensures) in omega arith
+
+returns-2 : tie.Need-returns-2
 returns-2 c = search needs
 
 pub take-spec : {M : Type 1} → statement M
 take-spec =
     tie.close
     (tie.spec
-    Inv-loop
-    μ-loop
-    loop-holds
-    element-copy-out-b
-    add-at
-    returns
+    slice-aggregate-scan
+    scan-requires
+    sub-join
+    part-join-start
+    part-join-end
     join-requires
-    loop-less
-    loop-again
+    add-reached
+    reached-requires
+    returns
+    reached-requires-2
     returns-2)

@@ -1,4 +1,5 @@
 -- `console::reply::tell` meets its contract. Assumes nothing.
+use Rattle.console.proofs.Holding.{longer}
 use lib.ListN.{length-take}
 use native.Mathlib.Omega.{arith}
 use borrow.Author.Needs.{needs}
@@ -14,30 +15,11 @@ returns c = search needs
 say-requires : tie.Need-say-requires
 say-requires c κs = search needs
 
-element-write-out : tie.Need-element-write-out
-element-write-out c = search needs
-
-add-write-all : tie.Need-add-write-all
-add-write-all c = search needs
-
-slice-aggregate-write-all : tie.Need-slice-aggregate-write-all
-slice-aggregate-write-all c = simp length-take (omega arith)
-
-write-all-requires : tie.Need-write-all-requires
-write-all-requires c κs = search needs
+hold-requires : tie.Need-hold-requires
+hold-requires c κs = search needs
 
 returns-2 : tie.Need-returns-2
-returns-2 c = search needs
+returns-2 c = longer (search needs) (simp length-take (omega arith)) (c .hold .ensures)
 
 pub tell-spec : {M : Type 1} → statement M
-tell-spec =
-    tie.close
-    (tie.spec
-    enum-told
-    returns
-    say-requires
-    element-write-out
-    add-write-all
-    slice-aggregate-write-all
-    write-all-requires
-    returns-2)
+tell-spec = tie.close (tie.spec enum-told returns say-requires hold-requires returns-2)

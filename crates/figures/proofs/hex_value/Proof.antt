@@ -1,0 +1,17 @@
+-- `figures::hex_value` meets its contract. Assumes nothing.
+use borrow.Author.Needs.{needs}
+use Rattle.figures.proofs.Characters.{hex-halves}
+use Rattle.figures.proofs.hex_value.Statement.{statement}
+use Rattle.figures.proofs.hex_value.Tie as tie
+
+mul-result : tie.Need-mul-result
+mul-result c = search needs
+
+add-result : tie.Need-add-result
+add-result c = search needs
+
+returns : tie.Need-returns
+returns c = hex-halves _ (c .pre)
+
+pub hex-value-spec : {M : Type 1} → statement M
+hex-value-spec = tie.close (tie.spec mul-result add-result returns)
