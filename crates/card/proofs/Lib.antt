@@ -1,6 +1,7 @@
 pub mod Spans
 pub mod Scans
 pub mod Ranges
+pub mod Copies
 pub mod Facts
 pub mod Replies
 pub mod Sweep

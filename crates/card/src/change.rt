@@ -66,10 +66,16 @@ pub fn num_right(kind: u8, num: u8) -> bool
 fn is_echoable(kind: u8, num: u8, at: u16, n: u8) -> bool
     ensures { λ r. ⌜ r ≡ echoable kind num at n ⌝ }
 {
-    let right = num_right(kind, num);
-    let inside = in_memory(at, n);
-    let fixed = names_read_only(at, n);
-    (kind <= CHANGE_BITS) & (right & (inside & !fixed))
+    if CHANGE_BITS < kind {
+        return false;
+    }
+    if !num_right(kind, num) {
+        return false;
+    }
+    if !in_memory(at, n) {
+        return false;
+    }
+    !names_read_only(at, n)
 }
 
 // An address from its two bytes.

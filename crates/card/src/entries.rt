@@ -39,13 +39,26 @@ pub fn set_code(words: &[u32], memory: &mut [u8], pending: &[u8], channel: u32, 
     DONE
 }
 
+// Buffer and operational become saved, both in one loop: each word is read once.
+fn restore_registers(words: &mut [u32])
+    requires { ⌜ length (now words) ≡ wordCount ⌝ }
+    ensures { λ _. ⌜ now (words .exit) ≡ restoredRegisters (now (words .entry)) ⌝ }
+{
+    let mut i = 0;
+    while i < REGISTERS {
+        let x = words[SAVED_REGISTERS + i];
+        words[BUFFER + i] = x;
+        words[OPERATIONAL + i] = x;
+        i += 1;
+    }
+}
+
 // Buffer and operational become saved, and parameters their saved copy.
 fn restore(words: &mut [u32])
     requires { ⌜ length (now words) ≡ wordCount ⌝ }
     ensures { λ _. ⌜ now (words .exit) ≡ restoredParameters (restoredRegisters (now (words .entry))) ⌝ }
 {
-    wire::move_words(words, SAVED_REGISTERS, BUFFER, REGISTERS);
-    wire::move_words(words, SAVED_REGISTERS, OPERATIONAL, REGISTERS);
+    restore_registers(words);
     wire::move_words(words, SAVED_PARAMETERS, PARAMETERS, PARAMETER_COUNT);
 }
 

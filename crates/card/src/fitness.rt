@@ -173,17 +173,24 @@ fn fit_registers(s: &[u32]) -> bool
     buffer & (operational & saved)
 }
 
-// Whether every word is in its range.
+// Whether every word is in its range. An exit after each run: so that the compiler does not mix the words of two runs.
 fn fit_words(words: &[u32]) -> bool
     requires { ⌜ length (now words) ≡ wordCount ⌝ }
     ensures { λ r. ⌜ r ≡ fitWords (now (words .entry)) ⌝ }
 {
-    let addresses = fit_addresses(words[IA], words[LECOM_ADDRESS], words[LOVE_ADDRESS]);
-    let love = all_in(&words[LOVE..DEMANDS], LOVE_LEAST, LOVE_MOST);
-    let demands = all_in(&words[DEMANDS..PARAMETERS], 0, DEMAND_MOST);
-    let parameters = fit_parameters(&words[PARAMETERS..BUFFER]);
-    let registers = fit_registers(&words[BUFFER..WORDS]);
-    addresses & (love & (demands & (parameters & registers)))
+    if !fit_addresses(words[IA], words[LECOM_ADDRESS], words[LOVE_ADDRESS]) {
+        return false;
+    }
+    if !all_in(&words[LOVE..DEMANDS], LOVE_LEAST, LOVE_MOST) {
+        return false;
+    }
+    if !all_in(&words[DEMANDS..PARAMETERS], 0, DEMAND_MOST) {
+        return false;
+    }
+    if !fit_parameters(&words[PARAMETERS..BUFFER]) {
+        return false;
+    }
+    fit_registers(&words[BUFFER..WORDS])
 }
 
 // The one test of number 12, which every entry makes first.

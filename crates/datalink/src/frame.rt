@@ -15,7 +15,7 @@ ghost use mathlib.Core.Bool.{true};
 ghost use Prim.Native.Nat.{_≤_};
 ghost use lib.ListN.{length};
 ghost use Rattle.datalink.specs.Form.{shortest};
-ghost use Rattle.datalink.specs.Frame.{iaIn, commandIn, kindOf, commandKnown, carried, formRight, lrcRight, changeAllowed, asked};
+ghost use Rattle.datalink.specs.Frame.{iaIn, commandIn, kindOf, commandKnown, carried, formRight, lrcRight, asked};
 ghost use Rattle.datalink.specs.Stages.{orderIn, orderAt, orderHere};
 
 // What a frame asks.
@@ -108,15 +108,7 @@ fn lrc_right(command: u8, f: &[u8]) -> bool
     (command == Datalink::ACKNOWLEDGE) | (sum == f[last])
 }
 
-// Whether the n bytes named may be asked for by a frame of this kind.
-fn change_allowed(kind: u8, at: u16, n: u8) -> bool
-    ensures { λ r. ⌜ r ≡ changeAllowed kind at n ⌝ }
-{
-    let fixed = change::names_read_only(at, n);
-    (kind == NO_CHANGE) | !fixed
-}
-
-// A frame of this kind, NUM and address: range, read-only, and what it asks.
+// A frame of this kind, NUM and address: range, read-only for a change, and what it asks.
 fn order_at(kind: u8, num: u8, at: u16) -> Order
     ensures { λ r. ⌜ r ≡ orderAt kind num at ⌝ }
 {
@@ -124,11 +116,11 @@ fn order_at(kind: u8, num: u8, at: u16) -> Order
     if !change::in_memory(at, n) {
         return Order::Silent(RANGE_UNKNOWN);
     }
-    if !change_allowed(kind, at, n) {
-        return Order::Silent(READ_ONLY);
-    }
     if kind == NO_CHANGE {
         return Order::Interrogate(at, num);
+    }
+    if change::names_read_only(at, n) {
+        return Order::Silent(READ_ONLY);
     }
     Order::Change(kind, num)
 }

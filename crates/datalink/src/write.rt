@@ -1,5 +1,6 @@
 // Frames as they are sent, by the card and by the line master.
 use crate::form::Datalink;
+use std::num::wrapping_add_u8;
 ghost use mathlib.Core.List.{_++_};
 ghost use Prim.Native.Nat.{_+_, _≤_};
 ghost use lib.ListN.{length};
@@ -13,11 +14,10 @@ pub fn write_frame(out: &mut [u8], second: u8, head: &[u8], bytes: &[u8]) -> usi
 {
     out[0] = Datalink::START;
     out[Datalink::SECOND] = second;
-    wire::copy(head, out, Datalink::NUM);
+    let headed = wrapping_add_u8(second, wire::copy_sum(head, out, Datalink::NUM));
     let at = Datalink::NUM + head.len();
-    wire::copy(bytes, out, at);
+    let lrc = wrapping_add_u8(headed, wire::copy_sum(bytes, out, at));
     let end = at + bytes.len();
-    let lrc = wire::sum(&out[Datalink::SECOND..end]);
     out[end] = lrc;
     end + 1
 }

@@ -3,15 +3,18 @@ use Prim.Native.Nat.{ℕ, suc, _+_, _-_, _*_, _/_, _%_, _≤_, _<_}
 use mathlib.Core.Path.{_≡_, refl, sym, ap, _∙_}
 use mathlib.Core.Bool.{Bool, true, false, _&&_, _||_, not, and-assoc, and-false}
 use mathlib.Core.List.{List, [], _∷_, _++_}
+use native.Mathlib.Numerals.{add-one}
 use native.Mathlib.Omega.{arith}
 use native.Mathlib.Decide.{decLt}
 use lib.Dec.{leb, ltb, eqb}
-use lib.ListN.{length, getD, drop}
+use lib.ListN.{length, getD, drop, drop-of-length-le}
 use lib.Seq.{drop-cons}
 use borrow.Author.Tests.{leb-true, ltb-true, le-leb, lt-leb, lt-ltb, le-ltb, ne-eqb}
 use Rattle.wire.specs.Choose.{choose}
 use Rattle.wire.proofs.Cases.{cases, by-choice}
-use Rattle.wire.proofs.Tests.{and-true}
+use Rattle.wire.specs.Buffer.{part}
+use Rattle.wire.proofs.Buffers.{part-append}
+use Rattle.wire.proofs.Tests.{and-true, and-true-right, both}
 use Rattle.wire.specs.Length.{between}
 use Rattle.figures.specs.Figure.{base, hex, none, noByte, figureOf, charOf, allFigures, pairByte}
 
@@ -32,18 +35,6 @@ in-range-above : (lo hi b : ℕ) → hi < b → between lo hi b ≡ false
 unfolding between
 in-range-above lo hi b h = rw (lt-leb b hi h) (and-false (leb lo b))
 
--- a figure is at most the mark for none
-pub figure-at-most : (b : ℕ) → figureOf b ≤ none
-unfolding figureOf
-figure-at-most b =
-    by-choice (λ n. n ≤ none) _ _ _
-    (λ d. omega (arith, in-range 48 57 b d))
-    (λ _. by-choice (λ n. n ≤ none) _ _ _
-    (λ u. omega (arith, in-range 65 70 b u))
-    (λ _. by-choice (λ n. n ≤ none) _ _ _
-    (λ l. omega (arith, in-range 97 102 b l))
-    (λ _. omega arith)))
-
 -- the character of a decimal figure
 pub char-decimal : (v : ℕ) → v < 10 → charOf v ≡ 48 + v
 unfolding charOf
@@ -60,10 +51,15 @@ figure-char v h = by (decLt v 10)
         let x = 65 + (v - 10) in
         simp (le-ltb v 10 (omega arith), in-range-above 48 57 x (omega arith), in-range-yes 65 70 x (omega arith) (omega arith)) (omega arith)
 
--- one character more
-pub all-next : (limit : ℕ) (s : List ℕ) (i : ℕ) → i < length s → allFigures limit (drop i s) ≡ (ltb (figureOf (getD s i 0)) limit && allFigures limit (drop (suc i) s))
+-- ok tells of the characters passed: one more, and none left
+pub all-next : (limit : ℕ) (ok : Bool) (s : List ℕ) (i : ℕ) → i < length s
+    → (ok && allFigures limit (drop i s)) ≡ ((ok && ltb (figureOf (getD s i 0)) limit) && allFigures limit (drop (suc i) s))
 unfolding allFigures
-all-next limit s i h = rw (drop-cons s i 0 h)
+all-next limit ok s i h = rw (drop-cons s i 0 h) (sym (and-assoc ok (ltb (figureOf (getD s i 0)) limit) (allFigures limit (drop (suc i) s))))
+
+pub all-end : (limit : ℕ) (ok : Bool) (s : List ℕ) (i : ℕ) → length s ≤ i → (ok && allFigures limit (drop i s)) ≡ ok
+unfolding allFigures
+all-end limit ok s i h = rw (drop-of-length-le s {i = i} h) (and-true-right ok)
 
 -- two lists, one after the other
 pub all-append : (limit : ℕ) (s t : List ℕ) → allFigures limit (s ++ t) ≡ (allFigures limit s && allFigures limit t)
@@ -71,6 +67,14 @@ unfolding allFigures
 all-append limit [] t = refl
 all-append limit (x ∷ s) t =
     ap (λ (b : Bool). ltb (figureOf x) limit && b) (all-append limit s t) ∙ sym (and-assoc (ltb (figureOf x) limit) (allFigures limit s) (allFigures limit t))
+
+-- figures below a limit are below a higher one
+pub all-below : (low high : ℕ) (s : List ℕ) → low ≤ high → allFigures low s ≡ true → allFigures high s ≡ true
+unfolding allFigures
+all-below low high [] h t = refl
+all-below low high (x ∷ s) h t =
+    let b = and-true (ltb (figureOf x) low) (allFigures low s) t in
+    both (lt-ltb (figureOf x) high (omega (arith, ltb-true (figureOf x) low (b .0)))) (all-below low high s h (b .1))
 
 -- a pair is a byte, or the mark for none
 pub pair-at-most : (limit high low : ℕ) → pairByte limit high low ≤ noByte
@@ -138,3 +142,13 @@ hex-halves b =
   where
     halves : ℕ → Type 0
     halves n = ltb n hex ≡ true → b % 16 + 9 * (b / 64) ≡ n % base
+
+-- the two characters of a list from index i on are figures exactly if they are a byte
+pub pair-part : (limit : ℕ) (s : List ℕ) (i : ℕ) → i + 1 < length s → allFigures limit (part s i (i + 2)) ≡ not (eqb (pairByte limit (getD s i 0) (getD s (i + 1) 0)) noByte)
+pair-part limit s i h =
+    let two : i + 2 - i ≡ 2 = omega arith in
+    rw (two, drop-cons s i 0 (omega arith), drop-cons s (suc i) 0 (omega arith), ← add-one i) (pair-figures limit (getD s i 0) (getD s (i + 1) 0))
+
+-- two parts of a list that meet
+pub all-parts : (limit : ℕ) (s : List ℕ) (a b e : ℕ) → a ≤ b → b ≤ e → allFigures limit (part s a e) ≡ (allFigures limit (part s a b) && allFigures limit (part s b e))
+all-parts limit s a b e h k = ap (allFigures limit) (sym (part-append s a b e h k)) ∙ all-append limit (part s a b) (part s b e)

@@ -1,14 +1,14 @@
 -- Laws of specs/Decimal.antt: figures written and read back, the size of the shortest form. Assumes nothing.
 use Prim.Native.Nat.{ℕ, zero, suc, _+_, _-_, _*_, _/_, _%_, _^_, _≤_, _<_}
 use mathlib.Core.Path.{_≡_, refl, sym, ap, _∙_}
-use mathlib.Core.Bool.{true}
+use mathlib.Core.Bool.{Bool, true, false}
 use mathlib.Core.List.{List, [], _∷_, _++_, append-assoc, append-nil}
 use native.Mathlib.Omega.{arith}
 use native.Mathlib.Decide.{decLt}
-use native.Mathlib.Nat.{add-zero, not-suc-le-zero, one-le-pow, pow-suc, pow-succ', mul-assoc, mul-le-mul-right, mod-eq-of-lt}
+use native.Mathlib.Nat.{add-zero, not-suc-le-zero, one-le-pow, pow-suc, pow-succ', mul-assoc, mul-le-mul-right, mod-eq-of-lt, pow-le-pow-right}
 use lib.Arith.{mod-mul}
 use lib.Dec.{ltb}
-use lib.ListN.{length, getD, set, take, drop, length-append, length-set, take-append-drop, List·getD-append}
+use lib.ListN.{length, getD, set, take, drop, length-append, length-set, take-append-drop, List·getD-append, drop-of-length-le}
 use lib.Seq.{drop-cons, take-set-le, drop-set-lt, getD-set-same}
 use borrow.Author.Tests.{lt-ltb, le-ltb, ltb-true}
 use Rattle.wire.specs.Choose.{choose}
@@ -16,7 +16,7 @@ use Rattle.wire.specs.Buffer.{put}
 use Rattle.wire.proofs.Cases.{yes as first, no as second}
 use Rattle.wire.proofs.Tests.{and-true}
 use Rattle.figures.specs.Figure.{zeroChar, decimal, figureOf, charOf, allFigures}
-use Rattle.figures.specs.Decimal.{digits, sizeWithin, sizeOf, shortest, valueFrom, valueOf}
+use Rattle.figures.specs.Decimal.{digits, sizeWithin, sizeOf, shortest, valueFrom, valueOf, noValue, readFrom, readOf, longestValue}
 use Rattle.figures.proofs.Characters.{char-decimal, figure-char, all-append}
 
 -- there are as many figures as asked for
@@ -79,10 +79,40 @@ pub value-below : (s : List ℕ) → allFigures decimal s ≡ true → valueOf s
 unfolding valueOf
 value-below s h = omega (arith, value-from-below 0 s h)
 
--- one character more
-pub value-next : (v : ℕ) (s : List ℕ) (i : ℕ) → i < length s → valueFrom v (drop i s) ≡ valueFrom (v * 10 + figureOf (getD s i 0)) (drop (suc i) s)
-unfolding valueFrom
-value-next v s i h = rw (drop-cons s i 0 h)
+-- what is read after the value v: a decimal figure more, any other character, none left
+module _ (v : ℕ) (s : List ℕ) (i : ℕ) where
+  pub read-figure : i < length s → figureOf (getD s i 0) < decimal → readFrom v (drop i s) ≡ readFrom (v * 10 + figureOf (getD s i 0)) (drop (suc i) s)
+  unfolding readFrom allFigures valueFrom
+  read-figure h f = rw (drop-cons s i 0 h, lt-ltb (figureOf (getD s i 0)) decimal f)
+
+  pub read-other : i < length s → decimal ≤ figureOf (getD s i 0) → readFrom v (drop i s) ≡ noValue
+  unfolding readFrom allFigures choose
+  read-other h f = rw (drop-cons s i 0 h, le-ltb (figureOf (getD s i 0)) decimal f)
+
+  pub read-end : length s ≤ i → readFrom v (drop i s) ≡ v
+  unfolding readFrom allFigures valueFrom choose
+  read-end h = rw (drop-of-length-le s {i = i} h)
+
+-- characters that are read as a number are decimal figures, and it is their value
+pub read-some : (s : List ℕ) → (readOf s ≡ noValue → ⊥) → (allFigures decimal s ≡ true) × (readOf s ≡ valueOf s)
+unfolding readOf readFrom valueOf
+read-some s n = by (allFigures decimal s) refl
+  where
+    by : (t : Bool) → allFigures decimal s ≡ t → (allFigures decimal s ≡ true) × (choose (allFigures decimal s) (valueFrom 0 s) noValue ≡ valueFrom 0 s)
+    by true e = (e, sym (first _ _ _ _ e refl))
+    by false e = absurd (n (sym (second _ _ _ _ e refl)))
+
+-- few characters that are not read as a number are not all decimal figures
+pub read-none : (s : List ℕ) → length s ≤ longestValue → readOf s ≡ noValue → allFigures decimal s ≡ false
+unfolding readOf readFrom valueOf
+read-none s l n = by (allFigures decimal s) refl
+  where
+    by : (t : Bool) → allFigures decimal s ≡ t → allFigures decimal s ≡ false
+    by true e =
+        let m : 10 ^ length s ≤ 10 ^ 12 = pow-le-pow-right {n = 10} (omega arith) {j = 12} (omega arith) in
+        let r : noValue ≡ valueFrom 0 s = sym n ∙ sym (first _ _ _ _ e refl) in
+        let z : ⊥ = omega (arith, m, r, value-from-below 0 s e) in absurd z
+    by false e = e
 
 -- no figures, put anywhere
 pub digits-none : (d : List ℕ) (at n : ℕ) → put d at (digits 0 n) ≡ d

@@ -1,20 +1,23 @@
 -- Laws of specs/Signed.antt: sign and magnitude, a word written and read back. Assumes nothing.
 use Prim.Native.Nat.{ℕ, suc, _+_, _≤_, _<_}
 use mathlib.Core.Path.{_≡_, refl, ap, _∙_}
-use mathlib.Core.Bool.{Bool, true, false}
+use mathlib.Core.Bool.{Bool, true, false, not}
 use mathlib.Core.List.{List, [], _∷_, _++_, append-assoc}
 use native.Mathlib.Omega.{arith}
 use native.Mathlib.Decide.{decLe}
 use native.Mathlib.Numerals.{add-one}
+use lib.Dec.{ltb}
 use lib.ListN.{length, getD, set, take, drop}
 use lib.Seq.{take-suc-set, drop-set-lt}
-use borrow.Author.Tests.{le-leb, lt-leb, leb-true, ne-eqb, le-ltb}
+use borrow.Author.Tests.{le-leb, lt-leb, leb-true, ne-eqb, lt-ltb, le-ltb}
 use Rattle.wire.specs.Choose.{choose}
 use Rattle.wire.specs.Word.{wordValues, minus}
 use Rattle.wire.specs.Buffer.{put}
-use Rattle.figures.specs.declared.Parsed.the-variants.{Value}
+use Rattle.wire.proofs.Cases.{yes as first, no as second}
+use Rattle.figures.specs.declared.Parsed.{Parsed}
+use Rattle.figures.specs.declared.Parsed.the-variants.{Value, Wrong}
 use Rattle.figures.specs.Figure.{zeroChar, decimal, charOf, allFigures}
-use Rattle.figures.specs.Decimal.{digits, sizeOf, sizeWithin, shortest}
+use Rattle.figures.specs.Decimal.{digits, sizeOf, sizeWithin, shortest, valueFrom, valueOf, noValue, readFrom, readOf}
 use Rattle.figures.specs.Signed.{half, minusChar, isNegative, magnitude, withSign, longestText, textOf, figuresOf, parsedOf}
 use Rattle.figures.proofs.Decimals.{shortest-figures, size-positive, size-at-most, shortest-length, value-shortest, shortest-first, shortest-figure}
 
@@ -124,6 +127,18 @@ text-first w p l e = by (decLe half w)
     by (no h) =
         let f : getD (shortest (magnitude w)) 0 0 ≡ zeroChar = simp (text-positive w (positive w (omega arith)), positive w (omega arith)) at e in
         shortest-first (magnitude w) (omega (arith, magnitude-positive w (omega arith))) f
+
+-- characters that are read as more than the bound are refused: as no number, or as one beyond it
+pub beyond-refused : (bound : ℕ) (s : List ℕ) (other : Parsed) → bound < readOf s
+    → Wrong ≡ choose (not (allFigures decimal s)) Wrong (choose (ltb bound (valueOf s)) Wrong other)
+unfolding readOf readFrom valueOf
+beyond-refused bound s other h = by (allFigures decimal s) refl
+  where
+    by : (t : Bool) → allFigures decimal s ≡ t → Wrong ≡ choose (not (allFigures decimal s)) Wrong (choose (ltb bound (valueFrom 0 s)) Wrong other)
+    by true e =
+        let r : valueFrom 0 s ≡ choose (allFigures decimal s) (valueFrom 0 s) noValue = first _ _ _ _ e refl in
+        second _ _ _ _ (ap not e) (first _ _ _ _ (lt-ltb bound (valueFrom 0 s) (omega (arith, r, h))) refl)
+    by false e = first _ _ _ _ (ap not e) refl
 
 -- a number's shortest decimal is read as the number, with the sign given
 figures-shortest : (bound : ℕ) (s : Bool) (n : ℕ) → n ≤ bound → figuresOf bound s (shortest n) ≡ Value (withSign s n)

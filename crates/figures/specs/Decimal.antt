@@ -3,7 +3,7 @@ use Prim.Native.Nat.{ℕ, zero, suc, _+_, _*_, _/_, _%_}
 use mathlib.Core.List.{List, [], _∷_, _++_}
 use lib.Dec.{ltb}
 use Rattle.wire.specs.Choose.{choose}
-use Rattle.figures.specs.Figure.{decimal, figureOf, charOf}
+use Rattle.figures.specs.Figure.{decimal, figureOf, charOf, allFigures}
 
 -- the last k decimal figures of n, leading zeros too
 unfoldable pub digits : ℕ → ℕ → List ℕ
@@ -31,6 +31,18 @@ valueFrom v (x ∷ xs) = valueFrom (v * decimal + figureOf x) xs
 -- the value of a run of decimal figures
 unfoldable pub valueOf : List ℕ → ℕ
 valueOf s = valueFrom 0 s
+
+-- the mark for characters that are no decimal number
+abbrev pub noValue : ℕ
+noValue = 18446744073709551615
+
+-- what the characters that are left are read as, after figures of the value v: `noValue` if one of them is no decimal figure
+unfoldable pub readFrom : ℕ → List ℕ → ℕ
+readFrom v s = choose (allFigures decimal s) (valueFrom v s) noValue
+
+-- what a run of characters is read as
+unfoldable pub readOf : List ℕ → ℕ
+readOf s = readFrom 0 s
 
 -- the longest run that is read: "1 to 12 data characters" (LECOM)
 abbrev pub longestValue : ℕ

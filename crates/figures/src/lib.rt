@@ -8,7 +8,7 @@ ghost use Rattle.wire.specs.Choose.{choose};
 ghost use Rattle.wire.specs.Buffer.{put};
 ghost use Rattle.wire.specs.Length.{between};
 ghost use Rattle.figures.specs.Figure.{base, hex, figureOf, charOf, allFigures, pairByte, pairOf};
-ghost use Rattle.figures.specs.Decimal.{digits, sizeOf, valueOf, longestValue};
+ghost use Rattle.figures.specs.Decimal.{digits, sizeOf, readOf, longestValue};
 ghost use Rattle.figures.specs.Signed.{isNegative, magnitude, withSign, longestText, textOf, figuresOf, parsedOf};
 
 // A figure below DECIMAL is a decimal one, below UPPER_HEX an upper-case hex one, below HEX a hex one of either case.
@@ -40,6 +40,9 @@ const NONE: u8 = 32;
 
 // The mark for two characters that are no byte.
 pub const NO_BYTE: u32 = 256;
+
+// The mark for characters that are no decimal number: more than any number that is read.
+pub const NO_VALUE: u64 = u64::MAX;
 
 // The sign before a negative number's figures.
 const MINUS: u8 = b'-';
@@ -80,18 +83,18 @@ pub fn figure_char(v: u8) -> u8
     b'A' + (v - DECIMAL)
 }
 
-// Whether every character of s is a figure below limit.
+// Whether every character of s is a figure below limit. No early exit: so the loop runs on several characters at once.
 pub fn all_figures(s: &[u8], limit: u8) -> bool
     ensures { λ r. ⌜ r ≡ allFigures limit (now (s .entry)) ⌝ }
 {
+    let mut ok = true;
     let mut i = 0;
     while i < s.len() {
-        if limit <= figure(s[i]) {
-            return false;
-        }
+        let here = figure(s[i]);
+        ok = ok & (here < limit);
         i += 1;
     }
-    true
+    ok
 }
 
 // The byte that two characters are, both of them figures below limit, or NO_BYTE.
@@ -171,15 +174,19 @@ pub fn size(n: u32) -> usize
     k
 }
 
-// The value of a run of decimal figures.
+// The value of a run of decimal figures, or NO_VALUE where a character is none.
 pub fn value(s: &[u8]) -> u64
     requires { ⌜ length (now s) ≤ longestValue ⌝ }
-    ensures { λ r. ⌜ r ≡ valueOf (now (s .entry)) ⌝ }
+    ensures { λ r. ⌜ r ≡ readOf (now (s .entry)) ⌝ }
 {
     let mut v: u64 = 0;
     let mut i = 0;
     while i < s.len() {
-        v = v * VALUE_BASE + figure(s[i]) as u64;
+        let x = figure(s[i]);
+        if DECIMAL <= x {
+            return NO_VALUE;
+        }
+        v = v * VALUE_BASE + x as u64;
         i += 1;
     }
     v
@@ -252,9 +259,6 @@ fn parse_figures(s: &[u8], negative: bool, bound: u32) -> Parsed
     ensures { λ r. ⌜ r ≡ figuresOf bound negative (now (s .entry)) ⌝ }
 {
     if s.len() == 0 {
-        return Parsed::Wrong;
-    }
-    if !all_figures(s, DECIMAL) {
         return Parsed::Wrong;
     }
     let v = value(s);

@@ -1,4 +1,5 @@
 pub mod Frames
+pub mod Codes
 pub mod Writes
 pub mod Laws
 pub mod Fits

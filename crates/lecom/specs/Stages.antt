@@ -9,12 +9,13 @@ use Rattle.wire.specs.Word.{minus}
 use Rattle.card.specs.Layout.{registers, channels}
 use Rattle.card.specs.Fitness.{inSpan, registerMost}
 use Rattle.card.specs.Numbers.{frameForm, checkCharacter, rangeUnknown, valueOutside, readOnly}
-use Rattle.lecom.specs.Frame.{collective, isWrite, isExtended, codeAt, hexAt, codeEnd, unless, sizeRight, endRight, codeRight, bccRight, codeKnown, writeRight, dataRight, ordered}
+use Rattle.lecom.specs.Frame.{collective, isWrite, isExtended, codeAt, hexAt, codeEnd, unless, sizeRight, endRight, codeRight, bccRight, namedIn, codeKnown, writeRight, dataRight, ordered}
 use Rattle.lecom.specs.declared.form.Named.{Named}
 use Rattle.lecom.specs.declared.form.Named.the-variants.{Register, Probe, Activate, Store, Nothing}
 use Rattle.lecom.specs.declared.frame.Order.{Order}
 use Rattle.lecom.specs.declared.frame.Order.the-variants.{Silent, Refused, Read, Write}
 use Rattle.lecom.specs.declared.frame.Outline.{Outline}
+use Rattle.lecom.specs.declared.frame.Code.{Code}
 
 -- the outline is that of the frame
 pub record Outlines (f : List ℕ) (o : Outline) : Type 0 where
@@ -24,6 +25,11 @@ pub record Outlines (f : List ℕ) (o : Outline) : Type 0 where
   pub starts : o .start ≡ codeAt f
   pub hexed : o .hex ≡ hexAt f
   pub ends : o .end ≡ codeEnd f
+
+-- the code is that of the frame: whether its characters are hex, and if they are, what it names
+pub record Coded (f : List ℕ) (code : Code) : Type 0 where
+  pub hexed : code .right ≡ codeRight f
+  pub names : codeRight f ≡ true → code .named ≡ namedIn f
 
 -- what a frame that reached the unit asks
 unfoldable pub orderHere : List ℕ → Order

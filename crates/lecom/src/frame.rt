@@ -10,6 +10,7 @@ use card::numbers::RANGE_UNKNOWN;
 use card::numbers::READ_ONLY;
 use card::numbers::VALUE_OUTSIDE;
 use figures::DECIMAL;
+use figures::NO_BYTE;
 use figures::Parsed;
 use figures::UPPER_HEX;
 use wire::BYTE_VALUES;
@@ -20,8 +21,8 @@ ghost use lib.ListN.{length, getD};
 ghost use Rattle.wire.specs.Choose.{choose};
 ghost use Rattle.card.specs.Numbers.{valueOutside, readOnly};
 ghost use Rattle.lecom.specs.Form.{shortest};
-ghost use Rattle.lecom.specs.Frame.{reaches, codeEnd, sizeRight, endRight, codeRight, bccOf, bccRight, pairIn, quadIn, namedIn, writeRight, valueRight, valueIn, dataRight, ordered, unless, asked};
-ghost use Rattle.lecom.specs.Stages.{Outlines, orderHere};
+ghost use Rattle.lecom.specs.Frame.{reaches, codeEnd, sizeRight, endRight, bccOf, bccRight, pairIn, namedIn, writeRight, valueRight, valueIn, dataRight, ordered, unless, asked};
+ghost use Rattle.lecom.specs.Stages.{Outlines, Coded, orderHere};
 
 // What an address's first figure counts.
 const TEN: u32 = DECIMAL as u32;
@@ -139,15 +140,6 @@ fn end_right(f: &[u8], outline: Outline) -> bool
     f[n - 1] == Lecom::ENQ
 }
 
-fn code_right(f: &[u8], outline: Outline) -> bool
-    requires { ⌜ (codeEnd (now f) ≤ length (now f)) × Outlines (now f) outline ⌝ }
-    ensures { λ r. ⌜ r ≡ codeRight (now (f .entry)) ⌝ }
-{
-    let at = outline.hex;
-    let end = outline.end;
-    figures::all_figures(&f[at..end], UPPER_HEX)
-}
-
 fn bcc_right(f: &[u8], outline: Outline) -> bool
     requires { ⌜ (shortest ≤ length (now f)) × Outlines (now f) outline ⌝ }
     ensures { λ r. ⌜ r ≡ bccRight (now (f .entry)) ⌝ }
@@ -168,27 +160,49 @@ fn pair_in(f: &[u8], at: usize) -> u32
     figures::pair_byte(f[at], f[at + 1], UPPER_HEX)
 }
 
-// The number that four hex characters are.
-fn quad_in(f: &[u8], at: usize) -> u32
-    requires { ⌜ at + 4 ≤ length (now f) ⌝ }
-    ensures { λ r. ⌜ r ≡ quadIn (now (f .entry)) at ⌝ }
-{
-    BYTE_VALUES * pair_in(f, at) + pair_in(f, at + Lecom::STANDARD)
+// What a frame's code is: whether its characters are hex, and what it names then.
+struct Code {
+    right: bool,
+    named: Named,
 }
 
-// What the frame's code names.
-fn named_in(f: &[u8], outline: Outline) -> Named
+// Reads the frame's code, each character once.
+fn code_in(f: &[u8], outline: Outline) -> Code
     requires { ⌜ (codeEnd (now f) ≤ length (now f)) × Outlines (now f) outline ⌝ }
-    ensures { λ r. ⌜ r ≡ namedIn (now (f .entry)) ⌝ }
+    ensures { λ r. ⌜ Coded (now (f .entry)) r ⌝ }
 {
     let at = outline.hex;
+    let first = pair_in(f, at);
+    if first == NO_BYTE {
+        return Code {
+            right: false,
+            named: Named::Nothing,
+        };
+    }
     if !outline.extended {
-        return form::named_by(pair_in(f, at));
+        return Code {
+            right: true,
+            named: form::named_by(first),
+        };
     }
-    if pair_in(f, at + Lecom::SUBCODE) != 0 {
-        return Named::Nothing;
+    let second = pair_in(f, at + Lecom::STANDARD);
+    let subcode = pair_in(f, at + Lecom::SUBCODE);
+    if (second == NO_BYTE) | (subcode == NO_BYTE) {
+        return Code {
+            right: false,
+            named: Named::Nothing,
+        };
     }
-    form::named_by(quad_in(f, at))
+    if subcode != 0 {
+        return Code {
+            right: true,
+            named: Named::Nothing,
+        };
+    }
+    Code {
+        right: true,
+        named: form::named_by(BYTE_VALUES * first + second),
+    }
 }
 
 // A write of what its data were read as.
@@ -231,13 +245,14 @@ fn order_here(f: &[u8], outline: Outline) -> Order
     if !end_right(f, outline) {
         return Order::Refused(FRAME_FORM);
     }
-    if !code_right(f, outline) {
+    let code = code_in(f, outline);
+    if !code.right {
         return Order::Refused(FRAME_FORM);
     }
     if !bcc_right(f, outline) {
         return Order::Refused(CHECK_CHARACTER);
     }
-    let named = named_in(f, outline);
+    let named = code.named;
     if !form::is_known(named) {
         return Order::Refused(RANGE_UNKNOWN);
     }

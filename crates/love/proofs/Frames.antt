@@ -7,12 +7,11 @@ use Prim.Native.Nat.{ℕ, _≤_}
 use borrow.Author.Tests.{ltb-true}
 use native.Mathlib.Omega.{arith}
 use lib.Dec.{eqb}
-use lib.ListN.{length, getD}
-use lib.Seq.{drop-cons}
+use lib.ListN.{length}
 use Rattle.wire.specs.Buffer.{part}
 use Rattle.wire.proofs.Cases.{by-choice}
 use Rattle.figures.specs.Figure.{upperHex, noByte, allFigures}
-use Rattle.figures.proofs.Characters.{pair-figures}
+use Rattle.figures.proofs.Characters.{pair-part}
 use Rattle.card.specs.Layout.{loveCount}
 use Rattle.love.specs.Form.{shortest, addressAt, dataAt}
 use Rattle.love.specs.Frame.{silently, unless, byteAt, asked}
@@ -22,7 +21,7 @@ use Rattle.love.specs.declared.frame.Order.the-variants.{Silent, Refused
 
 -- the address figures are right exactly if they are a byte
 pub address-figures : (f : List ℕ) → shortest ≤ length f → allFigures upperHex (part f addressAt dataAt) ≡ not (eqb (byteAt upperHex f addressAt) noByte)
-address-figures f h = rw (drop-cons f 2 0 (omega arith), drop-cons f 3 0 (omega arith)) (pair-figures upperHex (getD f 2 0) (getD f 3 0))
+address-figures f h = pair-part upperHex f addressAt (omega arith)
 
 -- a test, of which the other way is a refusal
 or-silent : (t : Bool) (o : Order) (n : ℕ) → (t ≡ true → Sound o) → Sound (silently t n o)

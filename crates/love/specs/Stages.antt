@@ -2,7 +2,7 @@
 use Prim.{Unit}
 use Prim.Native.Nat.{ℕ, _+_, _<_}
 use mathlib.Core.Path.{_≡_}
-use mathlib.Core.Bool.{true}
+use mathlib.Core.Bool.{Bool, true, false}
 use mathlib.Core.List.{List}
 use lib.Dec.{leb, ltb, eqb}
 use lib.ListN.{length}
@@ -16,6 +16,14 @@ use Rattle.love.specs.Form.{commandAt, parameterAt, valueAt, signAt, sta
 use Rattle.love.specs.Frame.{silently, unless, dataOf, byteAt, forUnit, checksumRight, parameterOf, signRight, numberIn}
 use Rattle.love.specs.declared.frame.Order.{Order}
 use Rattle.love.specs.declared.frame.Order.the-variants.{Silent, Refused, Probe, Read, Write}
+
+-- an order is a refusal that is answered
+abbrev pub refusal : Order → Bool
+refusal (Silent number) = false
+refusal (Refused number code) = true
+refusal Probe = false
+refusal (Read k) = false
+refusal (Write k word) = false
 
 -- a write of parameter k
 unfoldable pub orderWrite : ℕ → List ℕ → Order

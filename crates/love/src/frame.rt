@@ -9,23 +9,23 @@ use card::numbers::COMMAND_UNKNOWN;
 use card::numbers::FOREIGN_ADDRESS;
 use card::numbers::FRAME_FORM;
 use card::numbers::VALUE_OUTSIDE;
-use figures::DECIMAL;
 use figures::HEX;
 use figures::NO_BYTE;
+use figures::NO_VALUE;
 use figures::UPPER_HEX;
 use figures::all_figures;
 ghost use mathlib.Core.Path.{_≡_};
-ghost use mathlib.Core.Bool.{true, _||_};
+ghost use mathlib.Core.Bool.{_||_};
 ghost use Prim.Native.Nat.{_≤_, _<_, _+_};
 ghost use lib.Dec.{eqb};
 ghost use lib.ListN.{length};
-ghost use Rattle.wire.specs.Buffer.{part};
-ghost use Rattle.figures.specs.Figure.{decimal, upperHex, hex, allFigures};
+ghost use Rattle.figures.specs.Figure.{upperHex};
+ghost use Rattle.figures.specs.Signed.{withSign};
 ghost use Rattle.card.specs.Layout.{loveCount};
 ghost use Rattle.card.specs.Fitness.{loveAddressMost};
-ghost use Rattle.love.specs.Form.{shortest, addressAt, valueAt, signAt, plusSign, minusSign, writeLength};
-ghost use Rattle.love.specs.Frame.{forUnit, checksumRight, byteAt, parameterOf, numberIn, asked};
-ghost use Rattle.love.specs.Stages.{orderWrite, orderBy, orderIn, orderHere};
+ghost use Rattle.love.specs.Form.{shortest, addressAt, plusSign, minusSign, writeLength};
+ghost use Rattle.love.specs.Frame.{forUnit, checksumRight, byteAt, parameterOf, asked};
+ghost use Rattle.love.specs.Stages.{refusal, orderWrite, orderBy, orderIn, orderHere};
 
 // What a frame asks.
 pub enum Order {
@@ -39,6 +39,19 @@ pub enum Order {
     Read(usize),
     // Write a parameter: its place and the word.
     Write(usize, u32),
+}
+
+// Whether an order is a refusal that is answered.
+fn is_refusal(order: Order) -> bool
+    ensures { λ r. ⌜ r ≡ refusal order ⌝ }
+{
+    match order {
+        Order::Silent(_) => false,
+        Order::Refused(_, _) => true,
+        Order::Probe => false,
+        Order::Read(_) => false,
+        Order::Write(_, _) => false,
+    }
 }
 
 // The byte that two characters are, both of them figures below limit.
@@ -94,13 +107,11 @@ fn sign_right(sign: u32) -> bool
     (sign == Love::PLUS) | (sign == Love::MINUS)
 }
 
-// The number that a write's data holds, whose sign was read already, as a word.
-fn number_in(sign: u32, characters: &[u8]) -> u32
-    requires { ⌜ ((length (now characters) ≡ writeLength) × (sign ≡ byteAt hex (now characters) signAt)) × (allFigures decimal (part (now characters) valueAt signAt) ≡ true) ⌝ }
-    ensures { λ r. ⌜ r ≡ numberIn (now (characters .entry)) ⌝ }
+// The number of a write's sign and value, as a word.
+fn number_of(sign: u32, value: u32) -> u32
+    ensures { λ r. ⌜ r ≡ withSign (eqb sign minusSign) value ⌝ }
 {
-    let value = figures::value(&characters[Love::VALUE..Love::SIGN]);
-    figures::with_sign(sign == Love::MINUS, value as u32)
+    figures::with_sign(sign == Love::MINUS, value)
 }
 
 // A write of parameter k: its figures, its sign, its range.
@@ -108,14 +119,15 @@ fn order_write(k: usize, characters: &[u8]) -> Order
     requires { ⌜ (k < loveCount) × (length (now characters) ≡ writeLength) ⌝ }
     ensures { λ r. ⌜ r ≡ orderWrite k (now (characters .entry)) ⌝ }
 {
-    if !all_figures(&characters[Love::VALUE..Love::SIGN], DECIMAL) {
+    let value = figures::value(&characters[Love::VALUE..Love::SIGN]);
+    if value == NO_VALUE {
         return Order::Refused(VALUE_OUTSIDE, Love::FIELD_ERROR);
     }
     let sign = byte_at(characters, Love::SIGN, HEX);
     if !sign_right(sign) {
         return Order::Refused(VALUE_OUTSIDE, Love::FIELD_ERROR);
     }
-    let number = number_in(sign, characters);
+    let number = number_of(sign, value as u32);
     if !in_range(LOVE + k, number) {
         return Order::Refused(VALUE_OUTSIDE, Love::OUT_OF_RANGE);
     }
@@ -169,7 +181,8 @@ fn order_in(characters: &[u8]) -> Order
     order_by(command, k, characters)
 }
 
-// A frame of a right form: whose it is, its checksum, its characters.
+// A frame of a right form: whose it is, its checksum, its characters. What is carried out has no characters but figures; so they are looked at
+// only where the data are refused.
 fn order_here(address: u32, unit: u32, f: &[u8]) -> Order
     requires { ⌜ ((address ≤ loveAddressMost) × (shortest ≤ length (now f))) × (unit ≡ byteAt upperHex (now f) addressAt) ⌝ }
     ensures { λ r. ⌜ r ≡ orderHere address (now (f .entry)) ⌝ }
@@ -182,10 +195,14 @@ fn order_here(address: u32, unit: u32, f: &[u8]) -> Order
     }
     let end = f.len() - Love::TAIL;
     let characters = &f[Love::DATA..end];
+    let order = order_in(characters);
+    if !is_refusal(order) {
+        return order;
+    }
     if !all_figures(characters, HEX) {
         return Order::Refused(FRAME_FORM, Love::ILLEGAL_CHARACTER);
     }
-    order_in(characters)
+    order
 }
 
 // What the frame f asks of the unit at an address.

@@ -121,8 +121,11 @@ fn type_writable(opc: u8, p2: u8) -> bool
 fn option_right(opc: u8, p2: u8) -> bool
     ensures { λ r. ⌜ r ≡ optionRight opc p2 ⌝ }
 {
+    if !is_param(opc) {
+        return true;
+    }
     let allowed = (opc == Lucid::SET_PARAM) & (p2 & Lucid::OTHER_BITS == 0);
-    !is_param(opc) | ((p2 == 0) | allowed)
+    (p2 == 0) | allowed
 }
 
 // How many channels a mask names.

@@ -49,6 +49,22 @@ pub fn copy(src: &[u8], dst: &mut [u8], at: usize)
     }
 }
 
+// Copies all of bytes into dst from index at on, and gives their sum, taken modulo 256.
+pub fn copy_sum(bytes: &[u8], dst: &mut [u8], at: usize) -> u8
+    requires { ⌜ at + length (now bytes) ≤ length (now dst) ⌝ }
+    ensures { λ r. ⌜ (r ≡ sumOf (now (bytes .entry))) × (now (dst .exit) ≡ put (now (dst .entry)) at (now (bytes .entry))) ⌝ }
+{
+    let mut summed: u8 = 0;
+    let mut i = 0;
+    while i < bytes.len() {
+        let b = bytes[i];
+        dst[at + i] = b;
+        summed = wrapping_add_u8(summed, b);
+        i += 1;
+    }
+    summed
+}
+
 // Copies n words from index from to index to; the two runs do not meet.
 pub fn move_words(words: &mut [u32], from: usize, to: usize, n: usize)
     requires { ⌜ ((from + n ≤ length (now words)) × (to + n ≤ length (now words))) × ((from + n ≤ to) ⊎ (to + n ≤ from)) ⌝ }

@@ -1,9 +1,12 @@
--- `figures::parse_figures` meets its contract. Assumes nothing.
-use mathlib.Core.Path.{refl, sym, ap, _∙_}
+-- `figures::parse_figures` meets its contract: what is no number is read as more than any bound. Assumes nothing.
+use mathlib.Core.Path.{ap}
 use mathlib.Core.Bool.{not}
-use borrow.Author.Tests.{ne-eqb, lt-ltb}
-use Rattle.wire.proofs.Cases.{cases, yes, no}
+use native.Mathlib.Omega.{arith}
+use borrow.Author.Tests.{ne-eqb}
+use Rattle.wire.proofs.Cases.{cases, no}
 use Rattle.figures.specs.Signed.{figuresOf}
+use Rattle.figures.proofs.Decimals.{read-some}
+use Rattle.figures.proofs.Texts.{beyond-refused}
 use borrow.Author.Needs.{needs}
 use Rattle.figures.proofs.parse_figures.Statement.{statement}
 use Rattle.figures.proofs.parse_figures.Tie as tie
@@ -12,24 +15,14 @@ returns : tie.Need-returns
 unfolding figuresOf
 returns c = search cases
 
-all-figures-requires : tie.Need-all-figures-requires
-all-figures-requires c κs = search needs
+value-requires : tie.Need-value-requires
+value-requires c κs = search needs
 
 returns-2 : tie.Need-returns-2
 unfolding figuresOf
 returns-2 c =
-    no _ _ _ _ (ne-eqb _ _ (c .before .before .if1 .left))
-    (yes _ _ _ _ (ap not (sym (c .before .all-figures .ensures)) ∙ c .if2 .taken) refl)
-
-value-requires : tie.Need-value-requires
-value-requires c κs = search needs
-
-returns-3 : tie.Need-returns-3
-unfolding figuresOf
-returns-3 c =
-    no _ _ _ _ (ne-eqb _ _ (c .before .before .before .before .if1 .left))
-    (no _ _ _ _ (ap not (sym (c .before .before .before .all-figures .ensures)) ∙ c .before .before .if2 .left)
-    (rw (← c .before .value .ensures) (yes _ _ _ _ (lt-ltb _ _ (c .if3 .taken)) refl)))
+    let a = c .before .before .before .before .args in
+    no _ _ _ _ (ne-eqb _ _ (c .before .before .if1 .left)) (beyond-refused (a .bound) (a .s .now) _ (omega (arith, c .before .value .ensures)))
 
 cast-with-sign : tie.Need-cast-with-sign
 cast-with-sign c = search needs
@@ -37,22 +30,15 @@ cast-with-sign c = search needs
 with-sign-requires : tie.Need-with-sign-requires
 with-sign-requires c κs = search needs
 
-returns-4 : tie.Need-returns-4
+returns-3 : tie.Need-returns-3
 unfolding figuresOf
-returns-4 c =
-    no _ _ _ _ (ne-eqb _ _ (c .before .before .before .before .before .if1 .left))
-    (no _ _ _ _ (ap not (sym (c .before .before .before .before .all-figures .ensures)) ∙ c .before .before .before .if2 .left)
-    (rw (← c .before .before .value .ensures) (search cases)))
+returns-3 c =
+    let a = c .before .before .before .before .before .args in
+    let read = read-some (a .s .now) (λ e. omega (arith, e, c .before .before .value .ensures)) in
+    no _ _ _ _ (ne-eqb _ _ (c .before .before .before .if1 .left))
+    (no _ _ _ _ (ap not (read .0)) (rw (← read .1, ← c .before .before .value .ensures) (search cases)))
 
 pub parse-figures-spec : {M : Type 1} → statement M
 parse-figures-spec =
     tie.close
-    (tie.spec
-    returns
-    all-figures-requires
-    returns-2
-    value-requires
-    returns-3
-    cast-with-sign
-    with-sign-requires
-    returns-4)
+    (tie.spec returns value-requires returns-2 cast-with-sign with-sign-requires returns-3)

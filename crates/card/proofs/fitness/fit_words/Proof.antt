@@ -1,4 +1,5 @@
 -- `card::fitness::fit_words` meets its contract: the tests are those of the definition. Assumes nothing.
+use Rattle.wire.proofs.Cases.{told-no, told-yes}
 use Rattle.card.proofs.Ranges.{words-scanned}
 use borrow.Author.Needs.{needs}
 use Rattle.card.proofs.fitness.fit_words.Statement.{statement}
@@ -16,6 +17,11 @@ shared-slice-read-fit-addresses-3 c = search needs
 fit-addresses-requires : tie.Need-fit-addresses-requires
 fit-addresses-requires c κs = search needs
 
+returns : tie.Need-returns
+returns c =
+    let ws = c .before .before .before .before .before .before .args .words .now in
+    rw (← words-scanned ws (search needs)) (simp (told-no (c .before .fit-addresses .ensures) (c .if1 .taken)))
+
 sub-all-in : tie.Need-sub-all-in
 sub-all-in c = search needs
 
@@ -27,6 +33,12 @@ part-all-in-end c = search needs
 
 all-in-requires : tie.Need-all-in-requires
 all-in-requires c κs = search needs
+
+returns-2 : tie.Need-returns-2
+returns-2 c =
+    let a = c .before .before .before in
+    let ws = a .before .before .before .before .before .before .args .words .now in
+    rw (← words-scanned ws (search needs)) (simp (told-yes (a .before .fit-addresses .ensures) (a .if1 .left), told-no (c .before .all-in .ensures) (c .if2 .taken)))
 
 sub-all-in-2 : tie.Need-sub-all-in-2
 sub-all-in-2 c = search needs
@@ -40,6 +52,14 @@ part-all-in-end-2 c = search needs
 all-in-requires-2 : tie.Need-all-in-requires-2
 all-in-requires-2 c κs = search needs
 
+returns-3 : tie.Need-returns-3
+returns-3 c =
+    let l = c .before .before .before in
+    let a = l .before .before .before in
+    let ws = a .before .before .before .before .before .before .args .words .now in
+    rw (← words-scanned ws (search needs))
+    (simp (told-yes (a .before .fit-addresses .ensures) (a .if1 .left), told-yes (l .before .all-in .ensures) (l .if2 .left), told-no (c .before .all-in2 .ensures) (c .if3 .taken)))
+
 sub-fit-parameters : tie.Need-sub-fit-parameters
 sub-fit-parameters c = search needs
 
@@ -51,6 +71,15 @@ part-fit-parameters-end c = search needs
 
 fit-parameters-requires : tie.Need-fit-parameters-requires
 fit-parameters-requires c κs = search needs
+
+returns-4 : tie.Need-returns-4
+returns-4 c =
+    let d = c .before .before .before in
+    let l = d .before .before .before in
+    let a = l .before .before .before in
+    let ws = a .before .before .before .before .before .before .args .words .now in
+    rw (← words-scanned ws (search needs))
+    (simp (told-yes (a .before .fit-addresses .ensures) (a .if1 .left), told-yes (l .before .all-in .ensures) (l .if2 .left), told-yes (d .before .all-in2 .ensures) (d .if3 .left), told-no (c .before .fit-parameters .ensures) (c .if4 .taken)))
 
 sub-fit-registers : tie.Need-sub-fit-registers
 sub-fit-registers c = search needs
@@ -64,13 +93,16 @@ part-fit-registers-end c = search needs
 fit-registers-requires : tie.Need-fit-registers-requires
 fit-registers-requires c κs = search needs
 
-returns : tie.Need-returns
-returns c =
-    let h = c .before .before in
-    let g = h .before .before in
-    let f = g .before .before in
-    let ws = f .before .before .before .before .before .before .before .args .words .now in
-    rw (c .fit-registers .ensures, h .fit-parameters .ensures, g .all-in2 .ensures, f .all-in .ensures, f .before .before .fit-addresses .ensures) (words-scanned ws (search needs))
+returns-5 : tie.Need-returns-5
+returns-5 c =
+    let p = c .before .before in
+    let d = p .before .before .before in
+    let l = d .before .before .before in
+    let a = l .before .before .before in
+    let ws = a .before .before .before .before .before .before .args .words .now in
+    rw (← words-scanned ws (search needs))
+    (simp (told-yes (a .before .fit-addresses .ensures) (a .if1 .left), told-yes (l .before .all-in .ensures) (l .if2 .left), told-yes (d .before .all-in2 .ensures) (d .if3 .left), told-yes (p .before .fit-parameters .ensures) (p .if4 .left))
+    (c .fit-registers .ensures))
 
 pub fit-words-spec : {M : Type 1} → statement M
 fit-words-spec =
@@ -80,20 +112,24 @@ fit-words-spec =
     shared-slice-read-fit-addresses-2
     shared-slice-read-fit-addresses-3
     fit-addresses-requires
+    returns
     sub-all-in
     part-all-in-start
     part-all-in-end
     all-in-requires
+    returns-2
     sub-all-in-2
     part-all-in-start-2
     part-all-in-end-2
     all-in-requires-2
+    returns-3
     sub-fit-parameters
     part-fit-parameters-start
     part-fit-parameters-end
     fit-parameters-requires
+    returns-4
     sub-fit-registers
     part-fit-registers-start
     part-fit-registers-end
     fit-registers-requires
-    returns)
+    returns-5)

@@ -1,6 +1,8 @@
--- `datalink::frame::order_at` meets its contract, test by test. Assumes nothing.
-use borrow.Author.Tests.{eq-eqb}
-use Rattle.wire.proofs.Cases.{cases, yes, no, told-yes}
+-- `datalink::frame::order_at` meets its contract: an Interrogate may name every byte, so that it is known before the read-only test. Assumes nothing.
+use borrow.Author.Tests.{eq-eqb, ne-eqb}
+use Rattle.wire.specs.Choose.{choose}
+use Rattle.wire.proofs.Cases.{cases, told-yes, told-true, told-false}
+use Rattle.datalink.specs.Frame.{changeAllowed}
 use Rattle.datalink.specs.Stages.{orderAt}
 use borrow.Author.Needs.{needs}
 use Rattle.datalink.proofs.frame.order_at.Statement.{statement}
@@ -16,20 +18,28 @@ returns : tie.Need-returns
 unfolding orderAt
 returns c = rw (← c .before .before .bytes-named .ensures) (search cases)
 
-change-allowed-requires : tie.Need-change-allowed-requires
-change-allowed-requires c κs = search needs
-
 returns-2 : tie.Need-returns-2
-unfolding orderAt
-returns-2 c = rw (← c .before .before .before .before .bytes-named .ensures) (search cases)
+unfolding orderAt changeAllowed choose
+returns-2 c =
+    let inside = told-yes (c .before .before .in-memory .ensures) (c .before .if1 .left) in
+    rw (← c .before .before .before .bytes-named .ensures) (simp (inside, eq-eqb _ _ (c .if2 .taken)))
+
+names-read-only-requires : tie.Need-names-read-only-requires
+names-read-only-requires c κs = search needs
 
 returns-3 : tie.Need-returns-3
-unfolding orderAt
-returns-3 c = rw (← c .before .before .before .before .before .bytes-named .ensures) (search (yes, no, told-yes, eq-eqb))
+unfolding orderAt changeAllowed choose
+returns-3 c =
+    let change = c .before .before in
+    let inside = told-yes (change .before .before .in-memory .ensures) (change .before .if1 .left) in
+    rw (← change .before .before .before .bytes-named .ensures) (simp (inside, ne-eqb _ _ (change .if2 .left), told-true (c .before .names-read-only .ensures) (c .if3 .taken)))
 
 returns-4 : tie.Need-returns-4
-unfolding orderAt
-returns-4 c = rw (← c .before .before .before .before .before .bytes-named .ensures) (search cases)
+unfolding orderAt changeAllowed choose
+returns-4 c =
+    let change = c .before .before in
+    let inside = told-yes (change .before .before .in-memory .ensures) (change .before .if1 .left) in
+    rw (← change .before .before .before .bytes-named .ensures) (simp (inside, ne-eqb _ _ (change .if2 .left), told-false (c .before .names-read-only .ensures) (c .if3 .left)))
 
 pub order-at-spec : {M : Type 1} → statement M
 order-at-spec =
@@ -38,7 +48,7 @@ order-at-spec =
     bytes-named-requires
     in-memory-requires
     returns
-    change-allowed-requires
     returns-2
+    names-read-only-requires
     returns-3
     returns-4)

@@ -1,13 +1,16 @@
 -- `lecom::frame::order_here` meets its contract, test by test. Assumes nothing.
 use Rattle.wire.proofs.Cases.{cases, yes, no, told-yes, told-no}
 use native.Mathlib.Omega.{arith}
-use mathlib.Core.Path.{_≡_, ap, _∙_}
-use mathlib.Core.Bool.{true}
-use Prim.Native.Nat.{_≤_}
+use mathlib.Core.Path.{_≡_, refl, ap, _∙_}
+use mathlib.Core.Bool.{Bool, true}
+use mathlib.Core.List.{List}
+use Prim.Native.Nat.{ℕ, _≤_}
 use lib.ListN.{length}
+use Rattle.card.specs.Numbers.{rangeUnknown, valueOutside, readOnly}
 use Rattle.lecom.specs.Form.{known}
-use Rattle.lecom.specs.Frame.{sizeRight, codeEnd, codeKnown}
+use Rattle.lecom.specs.Frame.{unless, sizeRight, codeEnd, codeRight, namedIn, codeKnown, writeRight, dataRight, ordered}
 use Rattle.lecom.specs.Stages.{orderHere}
+use Rattle.lecom.specs.declared.frame.Order.{Order}
 use Rattle.lecom.proofs.Frames.{size-holds}
 use borrow.Author.Needs.{needs}
 use Rattle.lecom.proofs.frame.order_here.Statement.{statement}
@@ -34,41 +37,59 @@ returns-2 : tie.Need-returns-2
 unfolding orderHere
 returns-2 c = search cases
 
-code-right-requires : tie.Need-code-right-requires
-code-right-requires c κs = (ended (c .before .before), search needs)
+code-in-requires : tie.Need-code-in-requires
+code-in-requires c κs = (ended (c .before .before), search needs)
 
 returns-3 : tie.Need-returns-3
 unfolding orderHere
-returns-3 c = search cases
+returns-3 c = let hexed = c .before .before .code-in .ensures .hexed in search cases
 
 bcc-right-requires : tie.Need-bcc-right-requires
 bcc-right-requires c κs = search needs
 
 returns-4 : tie.Need-returns-4
 unfolding orderHere
-returns-4 c = search cases
-
-named-in-requires : tie.Need-named-in-requires
-named-in-requires c κs = (ended (c .before .before .before .before .before .before), search needs)
+returns-4 c = let hexed = c .before .before .before .before .code-in .ensures .hexed in search cases
 
 is-known-requires : tie.Need-is-known-requires
 is-known-requires c κs = search needs
 
--- the code is known as what it names is
-is-known-says : (c : tie.After-is-known) → c .is-known .result ≡ codeKnown (c .before .before .before .before .before .before .before .before .before .before .before .args .f .now)
-unfolding codeKnown
-is-known-says c = c .is-known .ensures ∙ ap known (c .before .named-in .ensures)
+-- the characters of the code are hex, and so it is known what it names
+module _ (c : tie.Else3) where
+  abbrev frame : List ℕ
+  frame = c .before .before .before .before .before .before .before .before .args .f .now
+
+  hexed : codeRight frame ≡ true
+  hexed = told-yes (c .before .before .code-in .ensures .hexed) (c .if3 .left)
+
+  named : c .before .before .code-in .result .named ≡ namedIn frame
+  named = c .before .before .code-in .ensures .names hexed
+
+  known-so : (r : Bool) → r ≡ known (c .before .before .code-in .result .named) → r ≡ codeKnown frame
+  unfolding codeKnown
+  known-so r e = e ∙ ap known named
+
+-- past the BCC, what is left of the order
+past-bcc : (c : tie.Else4) (order : Order) → order ≡ unless (codeKnown (frame (c .before .before))) rangeUnknown (unless (writeRight (frame (c .before .before))) readOnly (unless (dataRight (frame (c .before .before))) valueOutside (ordered (frame (c .before .before))))) → order ≡ orderHere (frame (c .before .before))
+unfolding orderHere
+past-bcc c order e =
+    let code = c .before .before in
+    let ends = code .before .before .before in
+    yes _ _ _ _ (sized (ends .before .before)) (yes _ _ _ _ (told-yes (ends .before .end-right .ensures) (ends .if2 .left)) (yes _ _ _ _ (hexed code) (yes _ _ _ _ (told-yes (c .before .bcc-right .ensures) (c .if4 .left)) e)))
 
 returns-5 : tie.Need-returns-5
-unfolding orderHere
-returns-5 c = let says = is-known-says (c .before) in search (yes, no, told-yes, told-no) depth 12
+returns-5 c =
+    let e = c .before .before in
+    past-bcc e _ (no _ _ _ _ (told-no (known-so (e .before .before) (c .before .is-known .result) (c .before .is-known .ensures)) (c .if5 .taken)) refl)
 
 order-in-requires : tie.Need-order-in-requires
-order-in-requires c κs = (sized (c .before .before .before .before .before .before .before .before .before), (search needs, c .before .before .named-in .ensures))
+order-in-requires c κs = (sized (c .before .before .before .before .before .before .before .before .before), (search needs, named (c .before .before .before .before)))
 
 returns-6 : tie.Need-returns-6
-unfolding orderHere
-returns-6 c = let says = is-known-says (c .before .before) in search (yes, no, told-yes, told-no) depth 12
+returns-6 c =
+    let k = c .before .before in
+    let e = k .before in
+    past-bcc e _ (yes _ _ _ _ (told-yes (known-so (e .before .before) (k .is-known .result) (k .is-known .ensures)) (c .before .if5 .left)) (c .order-in .ensures))
 
 pub order-here-spec : {M : Type 1} → statement M
 order-here-spec =
@@ -78,11 +99,10 @@ order-here-spec =
     returns
     end-right-requires
     returns-2
-    code-right-requires
+    code-in-requires
     returns-3
     bcc-right-requires
     returns-4
-    named-in-requires
     is-known-requires
     returns-5
     order-in-requires

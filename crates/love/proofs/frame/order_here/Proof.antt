@@ -1,7 +1,12 @@
--- `love::frame::order_here` meets its contract, test by test. Assumes nothing.
+-- `love::frame::order_here` meets its contract, test by test: an order that is no refusal shows that the characters are figures. Assumes nothing.
+use mathlib.Core.Path.{_≡_}
+use mathlib.Core.Bool.{true}
 use borrow.Author.Needs.{needs}
-use Rattle.wire.proofs.Cases.{cases}
+use Rattle.wire.proofs.Cases.{cases, told-no}
+use Rattle.figures.specs.Figure.{hex, allFigures}
+use Rattle.love.specs.Frame.{dataOf}
 use Rattle.love.specs.Stages.{orderHere}
+use Rattle.love.proofs.Carried.{figured}
 use Rattle.love.proofs.frame.order_here.Statement.{statement}
 use Rattle.love.proofs.frame.order_here.Tie as tie
 
@@ -31,19 +36,29 @@ part-characters-start c = search needs
 part-characters-end : tie.Need-part-characters-end
 part-characters-end c = search needs
 
-all-figures-requires : tie.Need-all-figures-requires
-all-figures-requires c κs = search needs
+order-in-requires : tie.Need-order-in-requires
+order-in-requires c κs = search needs
+
+is-refusal-requires : tie.Need-is-refusal-requires
+is-refusal-requires c κs = search needs
 
 returns-3 : tie.Need-returns-3
 unfolding orderHere
-returns-3 c = search cases
+returns-3 c =
+    let s = dataOf (c .before .before .before .before .before .before .before .before .before .args .f .now) in
+    let all : allFigures hex s ≡ true = rw (← c .before .before .order-in .ensures, told-no (c .before .is-refusal .ensures) (c .if3 .taken)) at (figured s) in
+    search cases
 
-order-in-requires : tie.Need-order-in-requires
-order-in-requires c κs = search needs
+all-figures-requires : tie.Need-all-figures-requires
+all-figures-requires c κs = search needs
 
 returns-4 : tie.Need-returns-4
 unfolding orderHere
 returns-4 c = search cases
+
+returns-5 : tie.Need-returns-5
+unfolding orderHere
+returns-5 c = search cases
 
 pub order-here-spec : {M : Type 1} → statement M
 order-here-spec =
@@ -57,7 +72,9 @@ order-here-spec =
     sub-characters
     part-characters-start
     part-characters-end
-    all-figures-requires
-    returns-3
     order-in-requires
-    returns-4)
+    is-refusal-requires
+    returns-3
+    all-figures-requires
+    returns-4
+    returns-5)
