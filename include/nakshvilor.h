@@ -81,18 +81,18 @@ enum {
 #define NK_DATA 4u           /* NUM data bytes, 32 at most */
 
 /* Sets the code of probe `channel` (0 to 3). NK_DONE, NK_CARD_UNFIT, or NK_RANGE_UNKNOWN for another channel.
- * Worst case: 455 instructions, 72 bytes of stack. */
+ * Worst case: 445 instructions, 56 bytes of stack. */
 uint8_t nk_set_code(const uint32_t *words, size_t words_count, uint8_t *memory, size_t memory_count,
                     const uint8_t *pending, size_t pending_count, uint32_t channel, uint8_t code);
 
 /* Restart: buffer and operational registers become the saved ones, parameters their saved copy, demands 65535, probe codes
- * 255, nothing pending; the rest stays. NK_DONE or NK_CARD_UNFIT. Worst case: 598 instructions, 104 bytes of stack. */
+ * 255, nothing pending; the rest stays. NK_DONE or NK_CARD_UNFIT. Worst case: 519 instructions, 72 bytes of stack. */
 uint8_t nk_restart(uint32_t *words, size_t words_count, uint8_t *memory, size_t memory_count, uint8_t *pending,
                    size_t pending_count);
 
 /* The governor's reading of a channel. NK_ANSWERED: *degrees is half the code less 40, exactly. NK_PROBE_FAULT: the probe
  * has failed; NK_CARD_UNFIT, NK_RANGE_UNKNOWN: refused. In these cases *degrees is not written: there are no degrees.
- * Worst case: 462 instructions, 72 bytes of stack. */
+ * Worst case: 452 instructions, 56 bytes of stack. */
 uint8_t nk_governor(const uint32_t *words, size_t words_count, const uint8_t *memory, size_t memory_count,
                     const uint8_t *pending, size_t pending_count, uint32_t channel, float *degrees);
 
@@ -102,8 +102,8 @@ uint8_t nk_governor(const uint32_t *words, size_t words_count, const uint8_t *me
  * The longest frame has 38 bytes in Datalink, 25 in LECOM, 32 in Love and 259 in LucidControl: the receive buffer needs that
  * many. A longer frame, passed whole, is NK_FRAME_FORM with nothing to be sent.
  *
- * Worst cases: Datalink 824 instructions and 120 bytes of stack, LECOM 1019 and 152, Love 930 and 136, LucidControl 632 and
- * 120. */
+ * Worst cases: Datalink 772 instructions and 104 bytes of stack, LECOM 860 and 120, Love 837 and 120, LucidControl 614 and
+ * 104. */
 uint8_t nk_datalink(const uint32_t *words, size_t words_count, uint8_t *memory, size_t memory_count, uint8_t *pending,
                     size_t pending_count, const uint8_t *frame, size_t frame_count, uint8_t *answer, size_t answer_count,
                     size_t *len);
@@ -118,13 +118,13 @@ uint8_t nk_lucid(uint32_t *words, size_t words_count, const uint8_t *memory, siz
                  size_t *len);
 
 /* Writes the saved image: NK_ANSWERED with NK_IMAGE bytes at the front of `image`, NK_CARD_UNFIT, or NK_BUFFER_SHORT.
- * Worst case: 11302 instructions, 152 bytes of stack. */
+ * Worst case: 2048 instructions, 72 bytes of stack. */
 uint8_t nk_write_image(const uint32_t *words, size_t words_count, const uint8_t *memory, size_t memory_count,
                        const uint8_t *pending, size_t pending_count, uint8_t *image, size_t image_count, size_t *len);
 
 /* Reads an image: the addresses, saved registers, saved parameters and Love parameters of the card become the image's.
  * NK_DONE; NK_CARD_UNFIT for the card before the call, NK_IMAGE_LENGTH, NK_IMAGE_PADDING, or NK_CARD_UNFIT for an entry of the
- * image outside its range. Worst case: 14913 instructions, 120 bytes of stack. */
+ * image outside its range. Worst case: 2631 instructions, 552 bytes of stack. */
 uint8_t nk_read_image(uint32_t *words, size_t words_count, const uint8_t *memory, size_t memory_count,
                       const uint8_t *pending, size_t pending_count, const uint8_t *image, size_t image_count);
 
@@ -139,7 +139,7 @@ uint8_t nk_read_image(uint32_t *words, size_t words_count, const uint8_t *memory
  * NK_ANSWERED: send the frame. NK_DONE: the exchange has ended, *phase says how: NK_ENDED_DONE (every byte, or every forced
  * bit, was read back as asked) or NK_ENDED_UNKNOWN. Refused, with nothing to be sent and the phase as it was: NK_VALUE_OUTSIDE
  * for the request, NK_BUFFER_SHORT, NK_NOTHING_PENDING after the end. A phase outside the list counts as NK_ENDED_UNKNOWN, and
- * is then stored as that. Worst case: 327 instructions, 120 bytes of stack. */
+ * is then stored as that. Worst case: 326 instructions, 120 bytes of stack. */
 enum { NK_BYTES = 0, NK_BITS = 1 };
 enum {
     NK_NEW = 0,
