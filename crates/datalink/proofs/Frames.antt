@@ -53,7 +53,7 @@ memory-facts at n e =
     let p = and-true (leb memoryStart at) (leb (at + n) memoryEnd) e in
     (leb-true memoryStart at (p .0), leb-true (at + n) memoryEnd (p .1))
 
-num-most : (kind num : ℕ) → numRight kind num ≡ true → num ≤ dataMost
+pub num-most : (kind num : ℕ) → numRight kind num ≡ true → num ≤ dataMost
 unfolding numRight
 num-most kind num e = leb-true num dataMost (and-true (leb num dataMost) _ e .0)
 

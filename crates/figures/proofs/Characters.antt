@@ -1,8 +1,9 @@
 -- Laws of specs/Figure.antt: figures and their characters, pairs of characters. Assumes nothing.
-use Prim.Native.Nat.{ℕ, suc, _+_, _-_, _*_, _/_, _%_, _≤_, _<_}
+use Prim.Native.Nat.{ℕ, zero, suc, _+_, _-_, _*_, _/_, _%_, _≤_, _<_}
 use mathlib.Core.Path.{_≡_, refl, sym, ap, _∙_}
 use mathlib.Core.Bool.{Bool, true, false, _&&_, _||_, not, and-assoc, and-false}
 use mathlib.Core.List.{List, [], _∷_, _++_}
+use native.Mathlib.Nat.{not-suc-le-zero}
 use native.Mathlib.Numerals.{add-one}
 use native.Mathlib.Omega.{arith}
 use native.Mathlib.Decide.{decLt}
@@ -13,10 +14,10 @@ use borrow.Author.Tests.{leb-true, ltb-true, le-leb, lt-leb, lt-ltb, le-ltb, ne-
 use Rattle.wire.specs.Choose.{choose}
 use Rattle.wire.proofs.Cases.{cases, by-choice}
 use Rattle.wire.specs.Buffer.{part}
-use Rattle.wire.proofs.Buffers.{part-append}
+use Rattle.wire.proofs.Buffers.{part-append, length-part, getD-part}
 use Rattle.wire.proofs.Tests.{and-true, and-true-right, both}
 use Rattle.wire.specs.Length.{between}
-use Rattle.figures.specs.Figure.{base, hex, none, noByte, figureOf, charOf, allFigures, pairByte}
+use Rattle.figures.specs.Figure.{zeroChar, nineChar, upperA, upperF, lowerA, lowerF, base, hex, none, noByte, figureOf, charOf, allFigures, pairByte}
 
 -- a range's two bounds
 pub in-range : (lo hi b : ℕ) → between lo hi b ≡ true → (lo ≤ b) × (b ≤ hi)
@@ -152,3 +153,29 @@ pair-part limit s i h =
 -- two parts of a list that meet
 pub all-parts : (limit : ℕ) (s : List ℕ) (a b e : ℕ) → a ≤ b → b ≤ e → allFigures limit (part s a e) ≡ (allFigures limit (part s a b) && allFigures limit (part s b e))
 all-parts limit s a b e h k = ap (allFigures limit) (sym (part-append s a b e h k)) ∙ all-append limit (part s a b) (part s b e)
+
+-- a figure's character is 0 or above it, and so above every control character
+pub figure-above : (b limit : ℕ) → limit ≤ none → ltb (figureOf b) limit ≡ true → zeroChar ≤ b
+unfolding figureOf
+figure-above b limit m h =
+    by-choice above _ _ _ (λ d _. omega (arith, in-range zeroChar nineChar b d))
+    (λ _. by-choice above _ _ _ (λ u _. omega (arith, in-range upperA upperF b u))
+    (λ _. by-choice above _ _ _ (λ l _. omega (arith, in-range lowerA lowerF b l))
+    (λ _ l. omega arith)))
+    (ltb-true (figureOf b) limit h)
+  where
+    above : ℕ → Type 0
+    above x = x < limit → zeroChar ≤ b
+
+pub all-above : (limit : ℕ) (s : List ℕ) → limit ≤ none → allFigures limit s ≡ true → (i : ℕ) → i < length s → zeroChar ≤ getD s i 0
+unfolding allFigures
+all-above limit [] m h i l = absurd (not-suc-le-zero l)
+all-above limit (b ∷ s) m h zero l = figure-above b limit m (and-true (ltb (figureOf b) limit) _ h .0)
+all-above limit (b ∷ s) m h (suc i) l = all-above limit s m (and-true (ltb (figureOf b) limit) _ h .1) i (omega arith)
+
+-- a character of a part whose characters are figures
+pub part-above : (limit : ℕ) (f : List ℕ) (a e i : ℕ) → limit ≤ none → allFigures limit (part f a e) ≡ true → a ≤ i → i < e → e ≤ length f → zeroChar ≤ getD f i 0
+part-above limit f a e i m h l u n =
+    let s : a + (i - a) ≡ i = omega arith in
+    let g : getD (part f a e) (i - a) 0 ≡ getD f i 0 = getD-part f a e (i - a) (omega arith) ∙ ap (λ (x : ℕ). getD f x 0) s in
+    rw g at (all-above limit (part f a e) m h (i - a) (omega (arith, length-part f a e (omega arith) n)))

@@ -10,7 +10,7 @@ use lib.Dec.{eqb, ltb, leb}
 use lib.ListN.{length, getD, set, length-set}
 use lib.Seq.{getD-set-same, getD-set-other}
 use lib.Pow.{pow-mono}
-use Rattle.wire.proofs.Tests.{and-true}
+use Rattle.wire.proofs.Tests.{and-true, neither}
 use Rattle.wire.specs.Word.{wordValues}
 use Rattle.bits.specs.Bits.{widest}
 use Rattle.bits.proofs.Sequences.{Fit, none, more}
@@ -58,10 +58,6 @@ unfolding replaced
 length-replaced [] ws vs = refl
 length-replaced (e ∷ form) ws [] = refl
 length-replaced (e ∷ form) ws (v ∷ vs) = length-replaced form (set ws (e .word) (wordOf e v)) vs ∙ length-set ws (e .word) (wordOf e v)
-
-neither : (a b : Bool) → (a || b) ≡ false → (a ≡ false) × (b ≡ false)
-neither true b h = (h, cc)
-neither false b h = (refl, h)
 
 -- a word that the table does not hold stays
 pub replaced-other : (form : List Entry) (ws vs : List ℕ) (k : ℕ) → holds form k ≡ false → getD (replaced form ws vs) k 0 ≡ getD ws k 0

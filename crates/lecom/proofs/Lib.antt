@@ -4,4 +4,6 @@ pub mod Writes
 pub mod Laws
 pub mod Fits
 pub mod Probes
+pub mod Receiver
+pub mod Wholes
 pub mod Computed

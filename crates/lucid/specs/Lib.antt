@@ -2,3 +2,4 @@ pub mod Form
 pub mod Frame
 pub mod Stages
 pub mod Answer
+pub mod Receiver

@@ -1,0 +1,4 @@
+pub mod Calls
+pub mod Reach
+pub mod Origin
+pub mod Computed
