@@ -14,7 +14,7 @@ use Rattle.wire.specs.Choose.{choose}
 use Rattle.wire.proofs.Cases.{by-choice, passed}
 use Rattle.wire.proofs.Tests.{and-true}
 use Rattle.wire.proofs.Lengths.{between-facts}
-use Rattle.receiver.specs.Step.Outcome.{Kept, Dropped, Finished}
+use Rattle.receiver.specs.Step.Fate.{Kept, Dropped, Finished}
 use Rattle.receiver.specs.Line.{Reachable, Whole}
 use Rattle.receiver.proofs.Reach.{whole, snoc}
 use Rattle.receiver.proofs.Origin.{Sound, held-reachable, reachable-held}

@@ -6,8 +6,8 @@ use mathlib.Core.List.{List, [], _∷_, _++_}
 use lib.Dec.{leb, ltb, eqb}
 use lib.ListN.{length, getD}
 use Rattle.wire.specs.Choose.{choose}
-use Rattle.receiver.specs.Step.{Outcome}
-use Rattle.receiver.specs.Step.Outcome.{Kept, Dropped, Finished}
+use Rattle.receiver.specs.Step.{Fate}
+use Rattle.receiver.specs.Step.Fate.{Kept, Dropped, Finished}
 use Rattle.card.specs.Layout.{dataMost}
 use Rattle.datalink.specs.Form.{longest, start, secondAt, frameNumAt, acknowledgeSize, bareSize}
 use Rattle.datalink.specs.Frame.{commandIn, commandKnown, isAcknowledge, kindIn, numIn, carried}
@@ -29,10 +29,10 @@ wanted f =
     (bareSize + carried (kindIn f) (numIn f))))
 
 -- what becomes of the bytes collected, with the one that came last
-unfoldable pub judged : List ℕ → Outcome
+unfoldable pub judged : List ℕ → Fate
 judged f = choose (startsRight f) (choose (leb (wanted f) (length f)) (Finished f) (Kept f)) Dropped
 
-unfoldable pub step : List ℕ → ℕ → Outcome
+unfoldable pub step : List ℕ → ℕ → Fate
 step part b = judged (part ++ (b ∷ []))
 
 -- the part frames within these rules

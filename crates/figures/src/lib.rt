@@ -56,7 +56,7 @@ fn in_range(lo: u8, hi: u8, b: u8) -> bool
     (lo <= b) & (b <= hi)
 }
 
-// What a received character means as a figure. Nothing else in the card decides this.
+// What a received character means as a figure. Every frame is read through it; `hex_byte`, for lines of text, keeps to its meaning.
 pub fn figure(b: u8) -> u8
     ensures { λ r. ⌜ r ≡ figureOf b ⌝ }
 {

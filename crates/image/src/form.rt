@@ -150,6 +150,7 @@ pub fn bits_at(k: usize) -> usize
 }
 
 // Whether every entry in whose field one of the values stands is in its range. A run with a bias is judged with it: from 0 on.
+// The addresses come first, each a run of one entry, so that the number of its run is the number of its entry too.
 pub fn entries_right(values: &[u32]) -> bool
     requires { ⌜ length (now values) ≡ length savedForm ⌝ }
     ensures { λ r. ⌜ r ≡ entriesRight savedForm (now (values .entry)) ⌝ }

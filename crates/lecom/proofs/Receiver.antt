@@ -12,8 +12,8 @@ use lib.ListN.{length, getD, length-append}
 use Rattle.wire.specs.Choose.{choose}
 use Rattle.wire.proofs.Cases.{by-choice}
 use Rattle.wire.proofs.Tests.{and-true, and-false-right}
-use Rattle.receiver.specs.Step.{Outcome, atRest, among, grown}
-use Rattle.receiver.specs.Step.Outcome.{Kept, Dropped, Finished}
+use Rattle.receiver.specs.Step.{Fate, atRest, among, grown}
+use Rattle.receiver.specs.Step.Fate.{Kept, Dropped, Finished}
 use Rattle.receiver.specs.Line.{Reachable}
 use Rattle.receiver.proofs.Origin.{Sound, held-reachable, reachable-held}
 use Rattle.lecom.specs.Form.{longest, stx, etx, eot, enq}
@@ -47,7 +47,7 @@ sound part b =
     (λ _. by-choice P (eqb (length part) 0) _ _ (λ _. tt)
     (λ _. by-choice P (ltb (length part) longest) _ _ (λ _. by-choice P (eqb b enq && not (among stx part)) _ _ (λ _. refl) (λ _. inl refl)) (λ _. tt))))
   where
-    P : Outcome → Type 0
+    P : Fate → Type 0
     P = Sound step part b
 
 -- what a held part frame says of a byte in it

@@ -14,7 +14,7 @@ use Rattle.wire.specs.Buffer.{part}
 use Rattle.wire.proofs.Cases.{by-choice, passed}
 use Rattle.wire.proofs.Lengths.{between-facts}
 use Rattle.receiver.specs.Step.{among, grown}
-use Rattle.receiver.specs.Step.Outcome.{Finished}
+use Rattle.receiver.specs.Step.Fate.{Finished}
 use Rattle.receiver.specs.Line.{Whole}
 use Rattle.receiver.proofs.Reach.{whole, snoc}
 use Rattle.figures.specs.Figure.{decimal, upperHex, none, allFigures}

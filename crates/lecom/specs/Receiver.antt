@@ -6,15 +6,15 @@ use mathlib.Core.List.{List, [], _∷_, _++_}
 use lib.Dec.{leb, eqb}
 use lib.ListN.{length, getD}
 use Rattle.wire.specs.Choose.{choose}
-use Rattle.receiver.specs.Step.{Outcome, among, grown}
-use Rattle.receiver.specs.Step.Outcome.{Kept, Dropped, Finished}
+use Rattle.receiver.specs.Step.{Fate, among, grown}
+use Rattle.receiver.specs.Step.Fate.{Kept, Dropped, Finished}
 use Rattle.lecom.specs.Form.{longest, stx, etx, eot, enq}
 
 -- STX has come, and ETX last: the next byte is the BCC
 unfoldable pub bccNext : List ℕ → Bool
 bccNext part = among stx part && eqb (getD part (length part - 1) 0) etx
 
-unfoldable pub step : List ℕ → ℕ → Outcome
+unfoldable pub step : List ℕ → ℕ → Fate
 step part b =
     choose (bccNext part) (grown longest part (Finished (part ++ (b ∷ []))))
     (choose (eqb b eot) (Kept (b ∷ []))

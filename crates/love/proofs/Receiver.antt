@@ -12,8 +12,8 @@ use lib.ListN.{length, length-append}
 use Rattle.wire.specs.Choose.{choose}
 use Rattle.wire.proofs.Cases.{by-choice}
 use Rattle.wire.proofs.Tests.{and-true, neither}
-use Rattle.receiver.specs.Step.{Outcome, atRest, among, grown}
-use Rattle.receiver.specs.Step.Outcome.{Kept, Dropped, Finished}
+use Rattle.receiver.specs.Step.{Fate, atRest, among, grown}
+use Rattle.receiver.specs.Step.Fate.{Kept, Dropped, Finished}
 use Rattle.receiver.specs.Line.{Reachable, Whole}
 use Rattle.receiver.proofs.Reach.{whole}
 use Rattle.receiver.proofs.Origin.{Sound, held-reachable, reachable-held}
@@ -42,7 +42,7 @@ sound part b =
     (λ _. by-choice P (eqb (length part) 0) _ _ (λ _. tt)
     (λ _. by-choice P (ltb (length part) longest) _ _ (λ _. by-choice P (eqb b etx) _ _ (λ _. refl) (λ _. inl refl)) (λ _. tt)))
   where
-    P : Outcome → Type 0
+    P : Fate → Type 0
     P = Sound step part b
 
 record Begun (x : ℕ) (p : List ℕ) : Type 0 where

@@ -5,11 +5,11 @@ use mathlib.Core.List.{List, [], _∷_, _++_}
 use lib.Dec.{leb, eqb}
 use lib.ListN.{length}
 use Rattle.wire.specs.Choose.{choose}
-use Rattle.receiver.specs.Step.{Outcome, among, grown}
-use Rattle.receiver.specs.Step.Outcome.{Kept, Dropped, Finished}
+use Rattle.receiver.specs.Step.{Fate, among, grown}
+use Rattle.receiver.specs.Step.Fate.{Kept, Dropped, Finished}
 use Rattle.love.specs.Form.{longest, stx, etx}
 
-unfoldable pub step : List ℕ → ℕ → Outcome
+unfoldable pub step : List ℕ → ℕ → Fate
 step part b =
     choose (eqb b stx) (Kept (b ∷ []))
     (choose (eqb (length part) 0) Dropped

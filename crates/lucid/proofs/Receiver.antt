@@ -12,58 +12,58 @@ use lib.Seq.{append-snoc}
 use Rattle.wire.specs.Choose.{choose}
 use Rattle.wire.proofs.Cases.{by-choice}
 use Rattle.wire.proofs.Tests.{and-true}
-use Rattle.receiver.specs.Step.Outcome.{Kept, Finished}
+use Rattle.receiver.specs.Step.Fate.{Kept, Finished}
 use Rattle.receiver.specs.Line.{Reachable, Whole}
 use Rattle.receiver.proofs.Reach.{whole, snoc}
 use Rattle.receiver.proofs.Origin.{Sound, held-reachable, reachable-held}
-use Rattle.lucid.specs.Receiver.{counted, step, held}
+use Rattle.lucid.specs.Receiver.{complete, step, held}
 
 sound : (part : List ℕ) (b : ℕ) → Sound step part b (step part b)
 unfolding step
-sound part b = by-choice (Sound step part b) (counted (part ++ (b ∷ []))) _ _ (λ _. refl) (λ _. inl refl)
+sound part b = by-choice (Sound step part b) (complete (part ++ (b ∷ []))) _ _ (λ _. refl) (λ _. inl refl)
 
 -- a frame that is complete stays so with more bytes behind it
-counted-longer : (u v : List ℕ) → counted u ≡ true → counted (u ++ v) ≡ true
-unfolding counted
-counted-longer u v h =
+complete-longer : (u v : List ℕ) → complete u ≡ true → complete (u ++ v) ≡ true
+unfolding complete
+complete-longer u v h =
     let p = and-true (leb 4 (length u)) _ h in
     let a : 4 ≤ length u = leb-true 4 (length u) (p .0) in
     let c : 4 + getD u 3 0 ≤ length u = leb-true (4 + getD u 3 0) (length u) (p .1) in
     let n = length-append u v in
     rw (le-leb 4 (length (u ++ v)) (omega arith), List·getD-append u v 0 3 (omega arith), le-leb (4 + getD u 3 0) (length (u ++ v)) (omega arith))
 
-counted-shorter : (u v : List ℕ) → counted (u ++ v) ≡ false → counted u ≡ false
-counted-shorter u v h = go (counted u) refl
+complete-shorter : (u v : List ℕ) → complete (u ++ v) ≡ false → complete u ≡ false
+complete-shorter u v h = go (complete u) refl
   where
-    go : (t : Bool) → counted u ≡ t → t ≡ false
-    go true e = sym (counted-longer u v e) ∙ h
+    go : (t : Bool) → complete u ≡ t → t ≡ false
+    go true e = sym (complete-longer u v e) ∙ h
     go false e = refl
 
 kept : (p : List ℕ) (b : ℕ) (xs : List ℕ) → held (p ++ (b ∷ xs)) ≡ true → step p b ≡ Kept (p ++ (b ∷ []))
 unfolding held step choose
 kept p b xs h =
-    let e : counted (p ++ (b ∷ []) ++ xs) ≡ false = ap counted (append-snoc p b xs) ∙ not-true (counted (p ++ (b ∷ xs))) h in
-    rw (counted-shorter (p ++ (b ∷ [])) xs e)
+    let e : complete (p ++ (b ∷ []) ++ xs) ≡ false = ap complete (append-snoc p b xs) ∙ not-true (complete (p ++ (b ∷ xs))) h in
+    rw (complete-shorter (p ++ (b ∷ [])) xs e)
 
 on : (p : List ℕ) (b : ℕ) (q : List ℕ) → held p ≡ true → step p b ≡ Kept q → held q ≡ true
 unfolding held step choose
-on p b q _ e = go (counted (p ++ (b ∷ []))) refl e
+on p b q _ e = go (complete (p ++ (b ∷ []))) refl e
   where
-    go : (t : Bool) → counted (p ++ (b ∷ [])) ≡ t → choose t (Finished (p ++ (b ∷ []))) (Kept (p ++ (b ∷ []))) ≡ Kept q → not (counted q) ≡ true
+    go : (t : Bool) → complete (p ++ (b ∷ [])) ≡ t → choose t (Finished (p ++ (b ∷ []))) (Kept (p ++ (b ∷ []))) ≡ Kept q → not (complete q) ≡ true
     go true u e = let z : _≡_ {A = ℕ} 0 1 = cc in let y : ⊥ = omega arith in absurd y
-    go false u e = let same : p ++ (b ∷ []) ≡ q = cc in subst (λ (l : List ℕ). not (counted l) ≡ true) same (rw u)
+    go false u e = let same : p ++ (b ∷ []) ≡ q = cc in subst (λ (l : List ℕ). not (complete l) ≡ true) same (rw u)
 
 pub held-leads : (part : List ℕ) → held part ≡ true → Reachable step part
-unfolding held counted
+unfolding held complete
 held-leads = held-reachable step sound held refl kept on
 
 pub leads-held : (part : List ℕ) → Reachable step part → held part ≡ true
-unfolding held counted
+unfolding held complete
 leads-held = reachable-held step sound held refl kept on
 
 -- every frame whose LEN is that of its data
 pub whole-len : (f : List ℕ) → 4 ≤ length f → length f ≡ 4 + getD f 3 0 → Whole step f
-unfolding held step counted choose
+unfolding held step complete choose
 whole-len f n e =
     let (p, b, d) = snoc f (omega arith) in
     let m : length f ≡ length p + 1 = ap length d ∙ length-append p (b ∷ []) in

@@ -10,8 +10,8 @@ use native.Mathlib.Decide.{decLt}
 use native.Mathlib.Omega.{arith}
 use lib.ListN.{length, take, drop, length-drop, take-append-drop}
 use lib.Seq.{take-length}
-use Rattle.receiver.specs.Step.{Outcome, Step, atRest}
-use Rattle.receiver.specs.Step.Outcome.{Kept, Dropped, Finished}
+use Rattle.receiver.specs.Step.{Fate, Step, atRest}
+use Rattle.receiver.specs.Step.Fate.{Kept, Dropped, Finished}
 use Rattle.receiver.specs.Line.{Collected, counted, onward, collect, Whole, Mark, Heard, along, heard, Call, run, asBytes, took, lendRest, joined}
 use Rattle.receiver.specs.Line.Mark.{Byte}
 use Rattle.receiver.specs.Line.Call.{Lent, Silence, Refused}
@@ -36,7 +36,7 @@ module _ (step : Step) where
   one-call [] part ms = refl
   one-call (b ∷ bytes) part ms = go (step part b) refl (λ q. one-call bytes q ms)
     where
-      go : (o : Outcome) → step part b ≡ o → ((q : List ℕ) → OneCall bytes q ms) → OneCall (b ∷ bytes) part ms
+      go : (o : Fate) → step part b ≡ o → ((q : List ℕ) → OneCall bytes q ms) → OneCall (b ∷ bytes) part ms
       go (Kept q) e more = rw e (rw e (more q))
       go Dropped e more = rw e (rw e (more atRest))
       go (Finished f) e more = rw e (rw e refl)
@@ -91,7 +91,7 @@ module _ (step : Step) where
             left = ap (λ (c : Collected). c .part) (same bytes) ∙ s .left;
           })
 
-      go : (o : Outcome) → step part b ≡ o → ((q : List ℕ) → Progress q bytes) → Progress part (b ∷ bytes)
+      go : (o : Fate) → step part b ≡ o → ((q : List ℕ) → Progress q bytes) → Progress part (b ∷ bytes)
       go (Kept q) e more = grow q (λ w. rw e refl) (more q)
       go Dropped e more = grow atRest (λ w. rw e refl) (more atRest)
       go (Finished f) e more =
@@ -103,7 +103,7 @@ module _ (step : Step) where
   takes [] part = (omega arith, λ h. h)
   takes (b ∷ bytes) part = go (step part b) (λ q. takes bytes q)
     where
-      go : (o : Outcome) → ((q : List ℕ) → (collect step q bytes .taken ≤ length bytes) × (0 < length bytes → 0 < collect step q bytes .taken))
+      go : (o : Fate) → ((q : List ℕ) → (collect step q bytes .taken ≤ length bytes) × (0 < length bytes → 0 < collect step q bytes .taken))
           → (onward o (λ left. collect step left bytes) .taken ≤ suc (length bytes)) × (0 < suc (length bytes) → 0 < onward o (λ left. collect step left bytes) .taken)
       go (Kept q) more = (omega (arith, more q .0), λ _. omega arith)
       go Dropped more = (omega (arith, more atRest .0), λ _. omega arith)

@@ -7,15 +7,15 @@ use mathlib.Core.Logic._⊎_.{inl, inr}
 use Prim.{Unit}
 use Prim.Native.Nat.{ℕ, _+_}
 use lib.Seq.{append-snoc}
-use Rattle.receiver.specs.Step.{Outcome, Step, atRest}
-use Rattle.receiver.specs.Step.Outcome.{Kept, Dropped, Finished}
+use Rattle.receiver.specs.Step.{Fate, Step, atRest}
+use Rattle.receiver.specs.Step.Fate.{Kept, Dropped, Finished}
 use Rattle.receiver.specs.Line.{Collected, counted, onward, collect, Reachable, Mark, along, heard, asBytes}
 use Rattle.receiver.specs.Line.Mark.{Byte, Quiet}
 use Rattle.receiver.proofs.Calls.{as-append}
 use Rattle.receiver.proofs.Reach.{reach-rest, reach-kept, climb}
 
 -- a byte is added to the part frame, or starts anew as it would at rest, or drops all, or finishes the frame of the part and itself
-abbrev pub Sound : Step → List ℕ → ℕ → Outcome → Type 0
+abbrev pub Sound : Step → List ℕ → ℕ → Fate → Type 0
 Sound step part b (Kept q) = (q ≡ part ++ (b ∷ [])) ⊎ ((q ≡ b ∷ []) × (step atRest b ≡ Kept (b ∷ [])))
 Sound step part b Dropped = Unit {0}
 Sound step part b (Finished f) = f ≡ part ++ (b ∷ [])
@@ -54,7 +54,7 @@ module _ (step : Step) (sound : (part : List ℕ) (b : ℕ) → Sound step part 
       subst (λ (l : List Mark). Woven l (heard step atRest ms .frames) (heard step atRest ms .part)) (append-snoc pre Quiet ms) (weave ms (pre ++ (Quiet ∷ [])) atRest (ends-none _))
   weave (Byte b ∷ ms) pre part n = go (step part b) refl (λ p q. weave ms p q)
     where
-      go : (o : Outcome) → step part b ≡ o → ((p : List Mark) (q : List ℕ) → Weave ms p q) → Woven (pre ++ (Byte b ∷ ms)) (along o (λ left. heard step left ms) .frames) (along o (λ left. heard step left ms) .part)
+      go : (o : Fate) → step part b ≡ o → ((p : List Mark) (q : List ℕ) → Weave ms p q) → Woven (pre ++ (Byte b ∷ ms)) (along o (λ left. heard step left ms) .frames) (along o (λ left. heard step left ms) .part)
       go (Kept q) e more =
           subst (λ (l : List Mark). Woven l (heard step q ms .frames) (heard step q ms .part)) (append-snoc pre (Byte b) ms)
           (more (pre ++ (Byte b ∷ [])) q (ends-kept pre part b q n (subst (Sound step part b) e (sound part b))))
@@ -84,7 +84,7 @@ module _ (step : Step) (sound : (part : List ℕ) (b : ℕ) → Sound step part 
   reach-line (Quiet ∷ ms) part r = reach-line ms atRest (reach-rest step)
   reach-line (Byte b ∷ ms) part r = go (step part b) refl (λ q. reach-line ms q)
     where
-      go : (o : Outcome) → step part b ≡ o → ((q : List ℕ) → Leads ms q) → Reachable step (along o (λ left. heard step left ms) .part)
+      go : (o : Fate) → step part b ≡ o → ((q : List ℕ) → Leads ms q) → Reachable step (along o (λ left. heard step left ms) .part)
       go (Kept q) e more = more q (reach-any part b q r e (subst (Sound step part b) e (sound part b)))
       go Dropped e more = more atRest (reach-rest step)
       go (Finished f) e more = more atRest (reach-rest step)
@@ -100,7 +100,7 @@ module _ (step : Step) (sound : (part : List ℕ) (b : ℕ) → Sound step part 
     stays [] part h = h
     stays (b ∷ xs) part h = go (step part b) refl (λ q. stays xs q)
       where
-        go : (o : Outcome) → step part b ≡ o → ((q : List ℕ) → held q ≡ true → held (collect step q xs .part) ≡ true) → held (onward o (λ left. collect step left xs) .part) ≡ true
+        go : (o : Fate) → step part b ≡ o → ((q : List ℕ) → held q ≡ true → held (collect step q xs .part) ≡ true) → held (onward o (λ left. collect step left xs) .part) ≡ true
         go (Kept q) e more = more q (on part b q h e)
         go Dropped e more = more atRest rest
         go (Finished f) e more = rest

@@ -6,8 +6,8 @@ use native.Mathlib.Nat.{not-suc-le-zero}
 use native.Mathlib.Omega.{arith}
 use lib.ListN.{length, length-append}
 use lib.Seq.{append-snoc}
-use Rattle.receiver.specs.Step.{Outcome, Step, atRest}
-use Rattle.receiver.specs.Step.Outcome.{Kept, Dropped, Finished}
+use Rattle.receiver.specs.Step.{Fate, Step, atRest}
+use Rattle.receiver.specs.Step.Fate.{Kept, Dropped, Finished}
 use Rattle.receiver.specs.Line.{Collected, counted, onward, collect, Reachable}
 
 module _ (step : Step) where
@@ -32,7 +32,7 @@ module _ (step : Step) where
           same (xs ++ ys) ∙ (λ i. record { taken = add _ (length xs) (collect step (collect step q xs .part) ys .taken) (ap (λ (c : Collected). c .taken) g) i; handed = g i .handed; part = g i .part })
           ∙ ap (λ (c : Collected). shifted (suc (length xs)) (collect step (c .part) ys)) (sym (same xs))
 
-      go : (o : Outcome) → step part b ≡ o → ((q : List ℕ) → Feed q xs ys) → Feed part (b ∷ xs) ys
+      go : (o : Fate) → step part b ≡ o → ((q : List ℕ) → Feed q xs ys) → Feed part (b ∷ xs) ys
       go (Kept q) e more = grow q (λ w. rw e refl) (more q)
       go Dropped e more = grow atRest (λ w. rw e refl) (more atRest)
       go (Finished f) e more = λ h′.

@@ -3,8 +3,8 @@ use Prim.Native.Nat.{ℕ, zero, suc}
 use mathlib.Core.Path.{_≡_}
 use mathlib.Core.List.{List, [], _∷_, _++_}
 use lib.ListN.{length, take, drop}
-use Rattle.receiver.specs.Step.{Outcome, Step, atRest}
-use Rattle.receiver.specs.Step.Outcome.{Kept, Dropped, Finished}
+use Rattle.receiver.specs.Step.{Fate, Step, atRest}
+use Rattle.receiver.specs.Step.Fate.{Kept, Dropped, Finished}
 
 -- what one call gives: how many bytes it took, the frame that it hands over (none or one), and the part frame that it leaves
 pub record Collected : Type 0 where
@@ -17,7 +17,7 @@ unfoldable pub counted : Collected → Collected
 counted c = record { taken = suc (c .taken); handed = c .handed; part = c .part }
 
 -- "A call stops after a finished frame and tells how many bytes it took"
-unfoldable pub onward : Outcome → (List ℕ → Collected) → Collected
+unfoldable pub onward : Fate → (List ℕ → Collected) → Collected
 onward (Kept part) more = counted (more part)
 onward Dropped more = counted (more atRest)
 onward (Finished f) more = record { taken = 1; handed = f ∷ []; part = atRest }
@@ -44,7 +44,7 @@ pub record Heard : Type 0 where
   pub frames : List (List ℕ)
   pub part : List ℕ
 
-unfoldable pub along : Outcome → (List ℕ → Heard) → Heard
+unfoldable pub along : Fate → (List ℕ → Heard) → Heard
 along (Kept part) rest = rest part
 along Dropped rest = rest atRest
 along (Finished f) rest = record { frames = f ∷ rest atRest .frames; part = rest atRest .part }

@@ -8,14 +8,14 @@ use lib.ListN.{length}
 use Rattle.wire.specs.Choose.{choose}
 
 -- a byte is kept (the part frame is then this), or drops what was collected and itself, or finishes a frame
-pub data Outcome : Type 0 where
-  Kept : List ℕ → Outcome
-  Dropped : Outcome
-  Finished : List ℕ → Outcome
+pub data Fate : Type 0 where
+  Kept : List ℕ → Fate
+  Dropped : Fate
+  Finished : List ℕ → Fate
 
 -- a dialect's rule: what comes of a part frame and the byte behind it
 abbrev pub Step : Type 0
-Step = List ℕ → ℕ → Outcome
+Step = List ℕ → ℕ → Fate
 
 abbrev pub atRest : List ℕ
 atRest = []
@@ -26,5 +26,5 @@ among x [] = false
 among x (b ∷ bytes) = eqb b x || among x bytes
 
 -- "A byte past the dialect's longest drops the frame": what comes of a byte where there is room for it
-unfoldable pub grown : ℕ → List ℕ → Outcome → Outcome
-grown longest part outcome = choose (ltb (length part) longest) outcome Dropped
+unfoldable pub grown : ℕ → List ℕ → Fate → Fate
+grown longest part fate = choose (ltb (length part) longest) fate Dropped

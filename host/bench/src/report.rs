@@ -3,13 +3,14 @@
 use std::cmp::Reverse;
 use std::collections::HashMap;
 use std::path::Path;
+use std::slice::from_ref;
 
 use crate::callgrind::Cost;
 use crate::calls::Entry;
 use crate::console;
 use crate::groups::{Case, Group, Plan, LONGEST_INTERROGATE};
 use crate::stack::Frames;
-use crate::time::ratio;
+use crate::time::{ratio, Ratio};
 
 /// What is aimed at: no more instructions than the second program's, and as many for fitness alone.
 const RATIO_AIM: f64 = 1.0;
@@ -23,6 +24,15 @@ fn verdict(is_met: bool) -> &'static str {
         "met"
     } else {
         "missed"
+    }
+}
+
+/// How a ratio stands to its aim, if it has one.
+fn ratio_verdict(ratio: f64, has_aim: bool) -> &'static str {
+    if has_aim {
+        verdict(ratio <= RATIO_AIM)
+    } else {
+        ""
     }
 }
 
@@ -87,7 +97,7 @@ fn print_mean(name: &str, count: usize, total: Cost, has_aim: bool) {
     let mean = |instructions: u64| instructions as f64 / count as f64;
     let (archive, second) = (mean(total.archive), mean(total.second));
     let ratio = quotient(total);
-    let verdict = if has_aim { verdict(ratio <= RATIO_AIM) } else { "" };
+    let verdict = ratio_verdict(ratio, has_aim);
     println!("| {name} | {count} | {archive:.0} | {second:.0} | {ratio:.3} | {verdict} |");
 }
 
@@ -196,18 +206,29 @@ fn slope(points: &[(f64, Cost)], part: fn(&Cost) -> u64) -> f64 {
     (slope * 10.0).round() / 10.0 + 0.0
 }
 
-/// Time ratios.
+/// Time ratios, in the order of the instructions.
 pub fn times(plan: &Plan) {
     println!("\n## Time, library to second program\n");
-    println!("| Calls | Median | Middle half of the turns |");
-    println!("|---|---|---|");
-    for group in plan.dialects.iter().chain([&plan.mix, &plan.fitness, &plan.master]) {
-        let ratio = ratio(group);
-        println!(
-            "| {} | {:.2} | {:.2} to {:.2} |",
-            group.name, ratio.median, ratio.lower, ratio.upper
-        );
+    println!("| Calls | Median | Middle half of the turns | Aim: {RATIO_AIM:.1} |");
+    println!("|---|---|---|---|");
+    for group in &plan.dialects {
+        print_time(group.name, &ratio(group, &group.cases), true);
     }
+    for case in &plan.others.cases {
+        print_time(&case.name, &ratio(&plan.others, from_ref(case)), true);
+    }
+    for (group, has_aim) in [(&plan.master, true), (&plan.mix, false), (&plan.fitness, false)] {
+        print_time(group.name, &ratio(group, &group.cases), has_aim);
+    }
+}
+
+/// A row with the time of some calls.
+fn print_time(name: &str, ratio: &Ratio, has_aim: bool) {
+    let verdict = ratio_verdict(ratio.median, has_aim);
+    println!(
+        "| {name} | {:.2} | {:.2} to {:.2} | {verdict} |",
+        ratio.median, ratio.lower, ratio.upper
+    );
 }
 
 /// The console's time.

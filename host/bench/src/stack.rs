@@ -143,8 +143,8 @@ impl Frames {
         Self { functions }
     }
 
-    /// The most bytes that a call of a function takes, with its return address. Functions outside the library (memcpy)
-    /// count with their return address alone.
+    /// The most bytes that a call of a function takes, with its return address. Functions outside the library (memcpy,
+    /// memset) count with their return address alone.
     pub fn most(&self, name: &str) -> usize {
         let Some(frame) = self.functions.get(name) else {
             return WORD;

@@ -6,9 +6,9 @@ use std::time::{Duration, Instant};
 use crate::calls::{thunk, Bed, Side, Thunk};
 use crate::groups::{Case, Group};
 
-/// Turns of both sides, and how often a turn makes a group's calls.
+/// Turns of both sides, and the least number of calls that a turn makes.
 const TURNS: usize = 400;
-const ROUNDS: usize = 20;
+const CALLS: usize = 2_000;
 
 /// Quartiles of one side's time divided by the second program's, turn by turn.
 pub struct Ratio {
@@ -30,9 +30,9 @@ impl Ratio {
     }
 }
 
-/// Measures a group.
-pub fn ratio(group: &Group) -> Ratio {
-    let thunks = |side| -> Vec<Thunk> { group.cases.iter().map(|case| thunk(side, case.request.entry)).collect() };
+/// Measures some calls of a group, made one after the other.
+pub fn ratio(group: &Group, cases: &[Case]) -> Ratio {
+    let thunks = |side| -> Vec<Thunk> { cases.iter().map(|case| thunk(side, case.request.entry)).collect() };
     let (archive, second) = (thunks(Side::Archive), thunks(Side::Second));
     let mut bed = group.bed();
     let ratios = (0..TURNS)
@@ -43,10 +43,7 @@ pub fn ratio(group: &Group) -> Ratio {
             } else {
                 (&second, &archive)
             };
-            let (one, other) = (
-                round_time(one, &group.cases, &mut bed),
-                round_time(other, &group.cases, &mut bed),
-            );
+            let (one, other) = (turn_time(one, cases, &mut bed), turn_time(other, cases, &mut bed));
             let (archive, second) = if turn % 2 == 0 { (one, other) } else { (other, one) };
             archive.as_secs_f64() / second.as_secs_f64()
         })
@@ -55,9 +52,9 @@ pub fn ratio(group: &Group) -> Ratio {
 }
 
 /// The time of one turn.
-fn round_time(thunks: &[Thunk], cases: &[Case], bed: &mut Bed) -> Duration {
+fn turn_time(thunks: &[Thunk], cases: &[Case], bed: &mut Bed) -> Duration {
     let start = Instant::now();
-    for _ in 0..ROUNDS {
+    for _ in 0..CALLS.div_ceil(cases.len()) {
         for (thunk, case) in thunks.iter().zip(cases) {
             black_box(thunk)(bed, &case.request);
         }
