@@ -7,18 +7,19 @@
  * table of any other length than below, zero too, gets NK_CARD_UNFIT and is not changed.
  *
  * ARGUMENTS. The library uses what is passed during the call and keeps no pointer to it. A pointer that has a count may be null
- * if the count is 0; `len`, `degrees` and `phase` may not be null. The arguments of one call may not overlap in memory: tables,
- * frame, answer buffer and image, and of nk_step `sent`, `states`, `answer` and `frame`; nor may *len, *degrees or *phase lie in
- * any of these. While a call uses a table that is not const, no other call may use it; calls on different cards are
- * independent. In an answer buffer, a frame buffer or an image's buffer the bytes after those that the call writes never change.
+ * if the count is 0; `len`, `taken`, `degrees` and `phase` may not be null. The arguments of one call may not overlap in memory:
+ * tables, bytes, frame, answer buffer and image, and of nk_step `sent`, `states`, `answer` and `frame`; nor may *len, *taken,
+ * *degrees or *phase lie in any of these or in one another. While a call uses a table that is not const, no other call may use
+ * it, not from an interrupt either; calls on different cards are independent. In an answer buffer, a frame buffer or an image's
+ * buffer the bytes after those that the call writes never change.
  *
  * REFUSALS. Every entry takes all inputs and returns one of the numbers below. A number of 2 or more changes no table and
- * writes nothing but the wire bytes of that refusal, whose count is in *len (0 for none). *len is written by every call that
- * has one, and *phase by every step. docs/FIRMWARE.md says what to do on 11, 12, 13 and 14.
+ * writes nothing but the wire bytes of that refusal, whose count is in *len (0 for none). *len and *taken are written by every
+ * call that has them, and *phase by every step. docs/FIRMWARE.md says what to do on 11, 12, 13, 14 and 16.
  *
- * WORST CASES. Every call ends, does not recurse, and loops only over tables, frames and fields of bounded length. The figures
- * with each entry are the instructions of the most expensive call measured on x86-64, and the most stack bytes of any call
- * (docs/PERFORMANCE.md).
+ * WORST CASES. Every call ends, does not recurse, and loops only over tables, frames and fields of bounded length, and over the
+ * bytes lent to a receiver. The figures with each entry are the instructions of the most expensive call measured on x86-64, and
+ * the most stack bytes of any call (docs/PERFORMANCE.md).
  */
 #ifndef NAKSHVILOR_H
 #define NAKSHVILOR_H
@@ -32,8 +33,8 @@ extern "C" {
 
 /* Numbers returned (docs/NUMBERS.md has the wire bytes of each). */
 enum {
-    NK_ANSWERED = 0,         /* done; *len answer bytes are to be sent */
-    NK_DONE = 1,             /* done; nothing is to be sent */
+    NK_ANSWERED = 0,         /* done; *len answer bytes are to be sent. From a receiver: *len bytes are a frame */
+    NK_DONE = 1,             /* done; nothing is to be sent. From a receiver: no frame yet */
     NK_FOREIGN_ADDRESS = 2,
     NK_FRAME_FORM = 3,
     NK_CHECK_CHARACTER = 4,
@@ -46,15 +47,22 @@ enum {
     NK_BUFFER_SHORT = 11,
     NK_CARD_UNFIT = 12,
     NK_IMAGE_LENGTH = 13,
-    NK_IMAGE_PADDING = 14
+    NK_IMAGE_PADDING = 14,
+    NK_FRAME_BUFFER_SHORT = 16
 };
 
 /* Lengths. */
 #define NK_WORDS 315u        /* words: uint32_t[NK_WORDS] */
 #define NK_MEMORY 4096u      /* memory: uint8_t[NK_MEMORY] */
-#define NK_PENDING 36u       /* pending: uint8_t[NK_PENDING] */
+#define NK_PORTS 398u        /* ports: uint8_t[NK_PORTS], zero at the start */
 #define NK_ROOM 38u          /* a dialect's answer buffer has at least this many bytes */
 #define NK_IMAGE 293u        /* the saved image */
+
+/* The longest frame of each dialect: its receiver's frame buffer has at least this many bytes. The last is enough for all. */
+#define NK_DATALINK_LONGEST 38u
+#define NK_LECOM_LONGEST 25u
+#define NK_LOVE_LONGEST 32u
+#define NK_LUCID_LONGEST 259u
 
 /* Places in words. A signed entry is in two's complement: read it as int32_t. */
 #define NK_IA 0u             /* Datalink I.A., 0 to 31 */
@@ -73,60 +81,115 @@ enum {
 #define NK_CODES 0u          /* four probe codes; 255 is a failed probe */
 #define NK_WRITABLE 16u      /* the first byte that a Datalink change may name */
 
-/* Places in pending. If NK_KIND is 0, nothing is pending and the rest has no meaning. */
+/* Places in ports, the row of the card's port. First the pending Datalink change: if NK_KIND is 0, nothing is pending and the
+ * other four have no meaning. */
 #define NK_KIND 0u           /* 0 none, 1 Change, 2 Change Bits */
 #define NK_NUM 1u            /* NUM as received */
 #define NK_LOW_ADDRESS 2u
 #define NK_HIGH_ADDRESS 3u
 #define NK_DATA 4u           /* NUM data bytes, 32 at most */
+/* Then of each dialect the part frame that its receiver has collected: how many bytes it has, low byte first in two bytes; then
+ * the bytes, with room for the longest frame. Bytes behind that many have no meaning. */
+#define NK_DATALINK_PART 36u
+#define NK_LECOM_PART 76u
+#define NK_LOVE_PART 103u
+#define NK_LUCID_PART 137u
 
 /* Sets the code of probe `channel` (0 to 3). NK_DONE, NK_CARD_UNFIT, or NK_RANGE_UNKNOWN for another channel.
  * Worst case: 445 instructions, 56 bytes of stack. */
 uint8_t nk_set_code(const uint32_t *words, size_t words_count, uint8_t *memory, size_t memory_count,
-                    const uint8_t *pending, size_t pending_count, uint32_t channel, uint8_t code);
+                    const uint8_t *ports, size_t ports_count, uint32_t channel, uint8_t code);
 
 /* Restart: buffer and operational registers become the saved ones, parameters their saved copy, demands 65535, probe codes
- * 255, nothing pending; the rest stays. NK_DONE or NK_CARD_UNFIT. Worst case: 519 instructions, 72 bytes of stack. */
-uint8_t nk_restart(uint32_t *words, size_t words_count, uint8_t *memory, size_t memory_count, uint8_t *pending,
-                   size_t pending_count);
+ * 255, nothing pending, no part frames; the rest stays. NK_DONE or NK_CARD_UNFIT.
+ * Worst case: 523 instructions, 72 bytes of stack. */
+uint8_t nk_restart(uint32_t *words, size_t words_count, uint8_t *memory, size_t memory_count, uint8_t *ports,
+                   size_t ports_count);
 
 /* The governor's reading of a channel. NK_ANSWERED: *degrees is half the code less 40, exactly. NK_PROBE_FAULT: the probe
  * has failed; NK_CARD_UNFIT, NK_RANGE_UNKNOWN: refused. In these cases *degrees is not written: there are no degrees.
  * Worst case: 452 instructions, 56 bytes of stack. */
 uint8_t nk_governor(const uint32_t *words, size_t words_count, const uint8_t *memory, size_t memory_count,
-                    const uint8_t *pending, size_t pending_count, uint32_t channel, float *degrees);
+                    const uint8_t *ports, size_t ports_count, uint32_t channel, float *degrees);
 
-/* One whole request of a dialect. `frame` is the request as received; the answer is written to the front of `answer`
- * (at least NK_ROOM bytes, else NK_BUFFER_SHORT) and its length to *len, which is 0 where nothing is to be sent.
- *
- * The longest frame has 38 bytes in Datalink, 25 in LECOM, 32 in Love and 259 in LucidControl: the receive buffer needs that
- * many. A longer frame, passed whole, is NK_FRAME_FORM with nothing to be sent.
+/* One whole request of a dialect. `frame` is the request as received, whole: from the dialect's receiver below, or from a driver
+ * that knows where frames end. The answer is written to the front of `answer` (at least NK_ROOM bytes, else NK_BUFFER_SHORT)
+ * and its length to *len, which is 0 where nothing is to be sent. A frame above the dialect's longest is NK_FRAME_FORM with
+ * nothing to be sent.
  *
  * Worst cases: Datalink 772 instructions and 104 bytes of stack, LECOM 860 and 120, Love 837 and 120, LucidControl 614 and
  * 104. */
-uint8_t nk_datalink(const uint32_t *words, size_t words_count, uint8_t *memory, size_t memory_count, uint8_t *pending,
-                    size_t pending_count, const uint8_t *frame, size_t frame_count, uint8_t *answer, size_t answer_count,
+uint8_t nk_datalink(const uint32_t *words, size_t words_count, uint8_t *memory, size_t memory_count, uint8_t *ports,
+                    size_t ports_count, const uint8_t *frame, size_t frame_count, uint8_t *answer, size_t answer_count,
                     size_t *len);
-uint8_t nk_lecom(uint32_t *words, size_t words_count, const uint8_t *memory, size_t memory_count, const uint8_t *pending,
-                 size_t pending_count, const uint8_t *frame, size_t frame_count, uint8_t *answer, size_t answer_count,
+uint8_t nk_lecom(uint32_t *words, size_t words_count, const uint8_t *memory, size_t memory_count, const uint8_t *ports,
+                 size_t ports_count, const uint8_t *frame, size_t frame_count, uint8_t *answer, size_t answer_count,
                  size_t *len);
-uint8_t nk_love(uint32_t *words, size_t words_count, const uint8_t *memory, size_t memory_count, const uint8_t *pending,
-                size_t pending_count, const uint8_t *frame, size_t frame_count, uint8_t *answer, size_t answer_count,
+uint8_t nk_love(uint32_t *words, size_t words_count, const uint8_t *memory, size_t memory_count, const uint8_t *ports,
+                size_t ports_count, const uint8_t *frame, size_t frame_count, uint8_t *answer, size_t answer_count,
                 size_t *len);
-uint8_t nk_lucid(uint32_t *words, size_t words_count, const uint8_t *memory, size_t memory_count, const uint8_t *pending,
-                 size_t pending_count, const uint8_t *frame, size_t frame_count, uint8_t *answer, size_t answer_count,
+uint8_t nk_lucid(uint32_t *words, size_t words_count, const uint8_t *memory, size_t memory_count, const uint8_t *ports,
+                 size_t ports_count, const uint8_t *frame, size_t frame_count, uint8_t *answer, size_t answer_count,
                  size_t *len);
+
+/* A receiver for each dialect: bytes go in as they come, a few at each interrupt, and whole frames come out. `bytes` are the
+ * bytes that came; `frame` is a buffer of at least the dialect's longest frame.
+ *
+ * NK_ANSWERED: a byte finished a frame. The frame is at the front of `frame`, *len bytes of it, for the dialect's entry above.
+ *   The call stops behind that byte; *taken says how many bytes it took. While that is below the count, lend the rest again.
+ * NK_DONE: no frame is finished. All bytes were taken, and *len is 0.
+ * NK_CARD_UNFIT; then NK_FRAME_BUFFER_SHORT if `frame` is below the dialect's longest. No byte was taken: *taken and *len are 0.
+ *   Lending the same bytes again gives the same number: a loop ends here.
+ *
+ * What is collected is kept in the dialect's part frame, in ports; words and memory stay as they are. However the bytes are
+ * divided over calls, the frames are the same. Bytes of no frame are dropped: those before a frame's start (7Eh in Datalink, EOT
+ * in LECOM, STX in Love, any byte in LucidControl); a frame that grows past the longest; a Datalink frame at an unknown command
+ * or a NUM above 32; in LECOM and Love a frame that another start breaks off.
+ *
+ * Here NK_CARD_UNFIT also looks at the part frames of all four dialects: each must be one that its receiver can leave, as one of
+ * no bytes is. No other entry looks at them.
+ *
+ * These calls use the tables as all others do: an interrupt may make them only while no other call of the card is under way.
+ * docs/FIRMWARE.md has an interrupt's body.
+ *
+ * Worst cases, for a longest frame in one call: Datalink 1948 instructions and 280 bytes of stack, LECOM 3022 and 280, Love 1313
+ * and 136, LucidControl 5545 and 152. For one byte 1414 at most; each byte more that is lent takes up to 22, in LECOM up to 84. */
+uint8_t nk_receive_datalink(const uint32_t *words, size_t words_count, const uint8_t *memory, size_t memory_count,
+                            uint8_t *ports, size_t ports_count, const uint8_t *bytes, size_t bytes_count, uint8_t *frame,
+                            size_t frame_count, size_t *taken, size_t *len);
+uint8_t nk_receive_lecom(const uint32_t *words, size_t words_count, const uint8_t *memory, size_t memory_count,
+                         uint8_t *ports, size_t ports_count, const uint8_t *bytes, size_t bytes_count, uint8_t *frame,
+                         size_t frame_count, size_t *taken, size_t *len);
+uint8_t nk_receive_love(const uint32_t *words, size_t words_count, const uint8_t *memory, size_t memory_count,
+                        uint8_t *ports, size_t ports_count, const uint8_t *bytes, size_t bytes_count, uint8_t *frame,
+                        size_t frame_count, size_t *taken, size_t *len);
+uint8_t nk_receive_lucid(const uint32_t *words, size_t words_count, const uint8_t *memory, size_t memory_count,
+                         uint8_t *ports, size_t ports_count, const uint8_t *bytes, size_t bytes_count, uint8_t *frame,
+                         size_t frame_count, size_t *taken, size_t *len);
+
+/* The dialect's line was quiet: its part frame is dropped. Call it when the line has been silent for longer than a pause within a
+ * frame may last; without it LucidControl, whose frames have no start character, does not find back to their beginning.
+ * NK_DONE, or NK_CARD_UNFIT as for the receivers. nk_restart drops the part frames of all dialects.
+ * Worst case: 1040 instructions, 120 bytes of stack. */
+uint8_t nk_quiet_datalink(const uint32_t *words, size_t words_count, const uint8_t *memory, size_t memory_count,
+                          uint8_t *ports, size_t ports_count);
+uint8_t nk_quiet_lecom(const uint32_t *words, size_t words_count, const uint8_t *memory, size_t memory_count,
+                       uint8_t *ports, size_t ports_count);
+uint8_t nk_quiet_love(const uint32_t *words, size_t words_count, const uint8_t *memory, size_t memory_count,
+                      uint8_t *ports, size_t ports_count);
+uint8_t nk_quiet_lucid(const uint32_t *words, size_t words_count, const uint8_t *memory, size_t memory_count,
+                       uint8_t *ports, size_t ports_count);
 
 /* Writes the saved image: NK_ANSWERED with NK_IMAGE bytes at the front of `image`, NK_CARD_UNFIT, or NK_BUFFER_SHORT.
  * Worst case: 2048 instructions, 72 bytes of stack. */
 uint8_t nk_write_image(const uint32_t *words, size_t words_count, const uint8_t *memory, size_t memory_count,
-                       const uint8_t *pending, size_t pending_count, uint8_t *image, size_t image_count, size_t *len);
+                       const uint8_t *ports, size_t ports_count, uint8_t *image, size_t image_count, size_t *len);
 
 /* Reads an image: the addresses, saved registers, saved parameters and Love parameters of the card become the image's.
  * NK_DONE; NK_CARD_UNFIT for the card before the call, NK_IMAGE_LENGTH, NK_IMAGE_PADDING, or NK_CARD_UNFIT for an entry of the
  * image outside its range. Worst case: 2631 instructions, 552 bytes of stack. */
 uint8_t nk_read_image(uint32_t *words, size_t words_count, const uint8_t *memory, size_t memory_count,
-                      const uint8_t *pending, size_t pending_count, const uint8_t *image, size_t image_count);
+                      const uint8_t *ports, size_t ports_count, const uint8_t *image, size_t image_count);
 
 /* The line master's step: the host's side of one Datalink exchange (change, acknowledge, read back).
  *

@@ -1,17 +1,17 @@
-/* The checks of the small card in main.c: scripts of requests with the answers that the papers give them, the line master
- * against the card, and every entry on unfit tables and short buffers.
+/* The checks of the small card in main.c: scripts of requests with the answers that the papers give them, as whole frames and as
+ * bytes come; the line master against the card; and every entry on unfit tables and short buffers.
  *
- * After every call the number, the length, the answer, the rest of the buffer and all three tables are compared. "01" is the
- * scope paper with its checked examples P1 to P12; "001" to "004" are the makers' documents. No expected byte was taken from
- * the library. It prints a line for each group and how many checks passed; at the first that fails it says which and exits
- * with 1.
+ * After every call the number, the length, the answer, the rest of the buffer and all three tables are compared. No expected
+ * byte was taken from the library. It prints a line for each group and how many checks passed; at the first that fails it says
+ * which and exits with 1.
  */
-#include <stdbool.h>
 
-/* The card as main.c has it: its tables, their set-up, its loop's body. */
+/* The card as main.c has it: its tables, their set-up, its loop's and its interrupt's body. */
 #define main example
 #include "main.c"
 #undef main
+
+#include "scripts.h"
 
 enum { LOVE_PARAMETERS = 4 };
 
@@ -21,11 +21,11 @@ struct lent {
     size_t words_count;
     uint8_t *memory;
     size_t memory_count;
-    uint8_t *pending;
-    size_t pending_count;
+    uint8_t *ports;
+    size_t ports_count;
 };
 
-#define LENT(t) (t)->words, (t)->words_count, (t)->memory, (t)->memory_count, (t)->pending, (t)->pending_count
+#define LENT(t) (t)->words, (t)->words_count, (t)->memory, (t)->memory_count, (t)->ports, (t)->ports_count
 
 static struct lent lend(struct card *card)
 {
@@ -54,7 +54,7 @@ static void begin(const char *name)
 
 static void end(void)
 {
-    printf("%-58s %4u checks\n", group, checks - group_start);
+    printf("%-58s %5u checks\n", group, checks - group_start);
 }
 
 static void check(bool holds, const char *call, const char *what)
@@ -77,7 +77,7 @@ static void check_tables(const struct card *card, const struct card *expected, c
 {
     check(memcmp(card->words, expected->words, sizeof card->words) == 0, call, "words");
     check(memcmp(card->memory, expected->memory, sizeof card->memory) == 0, call, "memory");
-    check(memcmp(card->pending, expected->pending, sizeof card->pending) == 0, call, "pending");
+    check(memcmp(card->ports, expected->ports, sizeof card->ports) == 0, call, "ports");
 }
 
 static struct answer painted(void)
@@ -104,32 +104,6 @@ static void check_answer(const struct answer *answer, const uint8_t *expected, s
 
 /* ---- Scripts ---- */
 
-enum table { WORDS, MEMORY, PENDING };
-
-/* An entry that a call changes, and what it becomes. */
-struct edit {
-    enum table table;
-    size_t place;
-    int32_t value;
-};
-
-enum { EDITS_MOST = 10 };
-
-/* A request and what the papers say of it. Tables change by the edits and in nothing else. */
-struct exchange {
-    const char *source;
-    const uint8_t *frame;
-    size_t frame_count;
-    uint8_t number;
-    const uint8_t *answer;
-    size_t answer_count;
-    struct edit edits[EDITS_MOST];
-    size_t edit_count;
-};
-
-#define SILENT NULL, 0
-#define EDITS(...) {__VA_ARGS__}, sizeof((const struct edit[]){__VA_ARGS__}) / sizeof(struct edit)
-#define KEEP {{0}}, 0
 #define COUNT(list) (sizeof(list) / sizeof *(list))
 
 static void edit_card(struct card *card, const struct edit *edits, size_t count)
@@ -142,25 +116,30 @@ static void edit_card(struct card *card, const struct edit *edits, size_t count)
         case MEMORY:
             card->memory[edits[i].place] = (uint8_t)edits[i].value;
             break;
-        case PENDING:
-            card->pending[edits[i].place] = (uint8_t)edits[i].value;
+        case PORTS:
+            card->ports[edits[i].place] = (uint8_t)edits[i].value;
             break;
         }
     }
 }
 
+/* A whole frame goes to its dialect's entry. */
+static void serve_as_said(struct card *card, enum dialect dialect, const struct exchange *e)
+{
+    struct card expected = *card;
+    edit_card(&expected, e->edits, e->edit_count);
+    struct answer answer = painted();
+    uint8_t number = serve(card, dialect, e->frame, e->frame_count, answer.bytes, ROOM, &answer.len);
+    check_number(number, e->number, e->source);
+    check_answer(&answer, e->answer, e->answer_count, e->source);
+    check_tables(card, &expected, e->source);
+}
+
 /* A line's requests, one after the other on the same card. */
 static void run(struct card *card, enum dialect dialect, const struct exchange *script, size_t count)
 {
-    for (const struct exchange *e = script; e < script + count; e++) {
-        struct card expected = *card;
-        edit_card(&expected, e->edits, e->edit_count);
-        struct answer answer = painted();
-        uint8_t number = serve(card, dialect, e->frame, e->frame_count, answer.bytes, ROOM, &answer.len);
-        check_number(number, e->number, e->source);
-        check_answer(&answer, e->answer, e->answer_count, e->source);
-        check_tables(card, &expected, e->source);
-    }
+    for (const struct exchange *e = script; e < script + count; e++)
+        serve_as_said(card, dialect, e);
 }
 
 /* Sets a probe's code, as firmware does when a probe sent one. */
@@ -203,194 +182,51 @@ static void check_probes(struct card *card)
     end();
 }
 
-/* ---- Datalink: 01 and 003; I.A. 3, probe codes 90, 78, 0 and 255 ---- */
+#include "receivers.h"
 
-static const struct exchange datalink_script[] = {
-    {"01 P1, 003 example A", BYTES(0x7E, 0xE3, 0x09, 0x00, 0x10, 0xFC), NK_ANSWERED,
-     BYTES(0x7E, 0x23, 0x09, 0x00, 0x10, 90, 78, 0, 255, 0, 0, 0, 0, 0, 0xE3), KEEP},
-    {"01 P2", BYTES(0x7E, 0xE3, 0x09, 0x00, 0x10, 0xFB), NK_CHECK_CHARACTER, SILENT, KEEP},
-    {"01 P3, 003 example B", BYTES(0x7E, 0xA3, 0x02, 0x00, 0x10, 0x08, 0x0C, 0xC9), NK_READ_ONLY, SILENT, KEEP},
-    {"01: I.A. 4", BYTES(0x7E, 0xE4, 0x09, 0x00, 0x10, 0xFD), NK_FOREIGN_ADDRESS, SILENT, KEEP},
-    {"01: a response is no command", BYTES(0x7E, 0x23, 0x00, 0x00, 0x10, 0x33), NK_COMMAND_UNKNOWN, SILENT, KEEP},
-    {"01: first byte", BYTES(0x7F, 0xE3, 0x09, 0x00, 0x10, 0xFC), NK_FRAME_FORM, SILENT, KEEP},
-    {"01: shorter than two bytes", BYTES(0x7E), NK_FRAME_FORM, SILENT, KEEP},
-    {"01: an empty frame", NULL, 0, NK_FRAME_FORM, SILENT, KEEP},
-    {"01: nothing pending", BYTES(0x7E, 0x83), NK_NOTHING_PENDING, SILENT, KEEP},
-    {"01: change echoed, 003 example B at 1010h", BYTES(0x7E, 0xA3, 0x02, 0x10, 0x10, 0x08, 0x0C, 0xD9), NK_ANSWERED,
-     BYTES(0x7E, 0x23, 0x02, 0x10, 0x10, 0x08, 0x0C, 0x59),
-     EDITS({PENDING, 0, 1}, {PENDING, 1, 2}, {PENDING, 2, 0x10}, {PENDING, 3, 0x10}, {PENDING, 4, 0x08},
-           {PENDING, 5, 0x0C})},
-    {"01: nothing changes before the acknowledge", BYTES(0x7E, 0xE3, 0x02, 0x10, 0x10, 0x05), NK_ANSWERED,
-     BYTES(0x7E, 0x23, 0x02, 0x10, 0x10, 0x00, 0x00, 0x45), KEEP},
-    {"01: acknowledge", BYTES(0x7E, 0x83), NK_DONE, SILENT,
-     EDITS({MEMORY, 0x10, 0x08}, {MEMORY, 0x11, 0x0C}, {PENDING, NK_KIND, 0})},
-    {"01: applied once", BYTES(0x7E, 0x83), NK_NOTHING_PENDING, SILENT, KEEP},
-    {"01 P4: 5Ah at 1020h", BYTES(0x7E, 0xA3, 0x01, 0x20, 0x10, 0x5A, 0x2E), NK_ANSWERED,
-     BYTES(0x7E, 0x23, 0x01, 0x20, 0x10, 0x5A, 0xAE),
-     EDITS({PENDING, 0, 1}, {PENDING, 1, 1}, {PENDING, 2, 0x20}, {PENDING, 3, 0x10}, {PENDING, 4, 0x5A})},
-    {"01 P4: acknowledge", BYTES(0x7E, 0x83), NK_DONE, SILENT, EDITS({MEMORY, 0x20, 0x5A}, {PENDING, NK_KIND, 0})},
-    {"01 P4: mask F0h, state 01h", BYTES(0x7E, 0xC3, 0x02, 0x20, 0x10, 0xF0, 0x01, 0xE6), NK_ANSWERED,
-     BYTES(0x7E, 0x23, 0x02, 0x20, 0x10, 0xF0, 0x01, 0x46),
-     EDITS({PENDING, 0, 2}, {PENDING, 1, 2}, {PENDING, 2, 0x20}, {PENDING, 3, 0x10}, {PENDING, 4, 0xF0},
-           {PENDING, 5, 0x01})},
-    {"01 P4: 51h", BYTES(0x7E, 0x83), NK_DONE, SILENT, EDITS({MEMORY, 0x20, 0x51}, {PENDING, NK_KIND, 0})},
-    {"01 P5: mask 00h, state FFh", BYTES(0x7E, 0xC3, 0x02, 0x20, 0x10, 0x00, 0xFF, 0xF4), NK_ANSWERED,
-     BYTES(0x7E, 0x23, 0x02, 0x20, 0x10, 0x00, 0xFF, 0x54),
-     EDITS({PENDING, 0, 2}, {PENDING, 1, 2}, {PENDING, 2, 0x20}, {PENDING, 3, 0x10}, {PENDING, 4, 0x00},
-           {PENDING, 5, 0xFF})},
-    {"01 P5: FFh", BYTES(0x7E, 0x83), NK_DONE, SILENT, EDITS({MEMORY, 0x20, 0xFF}, {PENDING, NK_KIND, 0})},
-    {"01: NUM 32", BYTES(0x7E, 0xE3, 0x20, 0x00, 0x10, 0x13), NK_ANSWERED,
-     BYTES(0x7E, 0x23, 0x20, 0x00, 0x10, 90, 78, 0, 255, 0, 0, 0, 0, 0, 0, 0, 0, 0, 0, 0, 0, 0x08, 0x0C, 0, 0, 0, 0, 0,
-           0, 0, 0, 0, 0, 0, 0, 0, 0, 0x0E),
-     KEEP},
-    {"01: NUM 33", BYTES(0x7E, 0xE3, 0x21, 0x00, 0x10, 0x14), NK_FRAME_FORM, SILENT, KEEP},
-    {"01: 2000h with NUM 0", BYTES(0x7E, 0xE3, 0x00, 0x00, 0x20, 0x03), NK_ANSWERED,
-     BYTES(0x7E, 0x23, 0x00, 0x00, 0x20, 0x43), KEEP},
-    {"01: 2000h with NUM 1", BYTES(0x7E, 0xE3, 0x01, 0x00, 0x20, 0x04), NK_RANGE_UNKNOWN, SILENT, KEEP},
+/* ---- The scripts, in both ways ---- */
+
+/* A way in which a script's requests reach the card, and what the group of each dialect is called. */
+struct way {
+    void (*run)(struct card *card, enum dialect dialect, const struct exchange *script, size_t count);
+    const char *groups[DIALECTS];
 };
 
-/* ---- LECOM: 01 and 001; unit 11, probe codes 90, 78, 0 and 255 ---- */
-
-enum { STX = 0x02, ETX = 0x03, EOT = 0x04, ENQ = 0x05, ACK = 0x06, NAK = 0x15 };
-
-static const struct exchange lecom_script[] = {
-    {"01 P6, 001 6.1.1", BYTES(EOT, '1', '1', STX, '0', '0', '0', '9', '8', '7', '3', ETX, 0x36), NK_ANSWERED,
-     BYTES(ACK), EDITS({WORDS, NK_BUFFER, 9873})},
-    {"01 P6: register 00 reads as before", BYTES(EOT, '1', '1', '0', '0', ENQ), NK_ANSWERED,
-     BYTES(STX, '0', '0', '0', ETX, 0x33), KEEP},
-    {"01 P7, 001 6.1.4", BYTES(EOT, '1', '1', STX, '6', '7', '1', ETX, 0x33), NK_ANSWERED, BYTES(ACK),
-     EDITS({WORDS, NK_OPERATIONAL, 9873})},
-    {"01 P7: register 00 reads 9873", BYTES(EOT, '1', '1', '0', '0', ENQ), NK_ANSWERED,
-     BYTES(STX, '0', '0', '9', '8', '7', '3', ETX, 0x06), KEEP},
-    {"01: \"!00\" reaches the same register", BYTES(EOT, '1', '1', '!', '0', '0', '0', '0', '0', '0', ENQ), NK_ANSWERED,
-     BYTES(STX, '!', '0', '0', '0', '0', '0', '0', '9', '8', '7', '3', ETX, 0x27), KEEP},
-    {"001 6.1.5: STORE", BYTES(EOT, '1', '1', STX, '6', '8', '1', ETX, 0x3C), NK_ANSWERED, BYTES(ACK),
-     EDITS({WORDS, NK_SAVED, 9873})},
-    {"001 3.3.1: unit 31", BYTES(EOT, '3', '1', '0', '3', ENQ), NK_FOREIGN_ADDRESS, SILENT, KEEP},
-    {"001 3.3.2: unknown code", BYTES(EOT, '1', '1', '!', '0', '8', '1', 'A', '0', '0', ENQ), NK_RANGE_UNKNOWN,
-     BYTES(STX, '!', '0', '8', '1', 'A', '0', '0', EOT), KEEP},
-    {"01: data 999999", BYTES(EOT, '1', '1', STX, '0', '1', '9', '9', '9', '9', '9', '9', ETX, 0x02), NK_ANSWERED,
-     BYTES(ACK), EDITS({WORDS, NK_BUFFER + 1, 999999})},
-    {"01: data -999999", BYTES(EOT, '1', '1', STX, '0', '1', '-', '9', '9', '9', '9', '9', '9', ETX, 0x2F), NK_ANSWERED,
-     BYTES(ACK), EDITS({WORDS, NK_BUFFER + 1, -999999})},
-    {"01: data 1000000", BYTES(EOT, '1', '1', STX, '0', '1', '1', '0', '0', '0', '0', '0', '0', ETX, 0x33),
-     NK_VALUE_OUTSIDE, BYTES(NAK), KEEP},
-    {"01: probe 1, code 78", BYTES(EOT, '1', '1', '6', '1', ENQ), NK_ANSWERED,
-     BYTES(STX, '6', '1', '-', '1', '0', ETX, 0x28), KEEP},
-    {"01: probe 3 at fault", BYTES(EOT, '1', '1', '6', '3', ENQ), NK_PROBE_FAULT, BYTES(NAK), KEEP},
-    {"01: probe written", BYTES(EOT, '1', '1', STX, '6', '0', '1', ETX, 0x34), NK_READ_ONLY, BYTES(NAK), KEEP},
-    {"01: BCC", BYTES(EOT, '1', '1', STX, '0', '0', '0', '9', '8', '7', '3', ETX, 0x37), NK_CHECK_CHARACTER, BYTES(NAK),
-     KEEP},
-    {"01: layout", BYTES(EOT, '1', '1', '0', 'a', ENQ), NK_FRAME_FORM, BYTES(NAK), KEEP},
-    {"01: first byte", BYTES(ENQ, '1', '1', '0', '0', ENQ), NK_FRAME_FORM, SILENT, KEEP},
-    {"01: address 00 sends nothing", BYTES(EOT, '0', '0', STX, '6', '7', '0', ETX, 0x32), NK_DONE, SILENT, KEEP},
-    {"01: address 10 sends nothing", BYTES(EOT, '1', '0', '0', '0', ENQ), NK_DONE, SILENT, KEEP},
-    {"01: no NAK to address 10", BYTES(EOT, '1', '0', '6', '3', ENQ), NK_PROBE_FAULT, SILENT, KEEP},
+static const struct way whole = {
+    run,
+    {"Datalink (01, 003)", "LECOM (01, 001)", "Love (01, 004)", "LucidControl (01, 002)"},
 };
 
-/* ---- Love: 01 and 004; address 32h, probe 0 with code 90 ---- */
-
-#define UNIT STX, 'L', '3', '2'
-
-static const struct exchange love_script[] = {
-    {"01 P8, 004: write -15 to SP1", BYTES(UNIT, '0', '2', '0', '0', '0', '0', '1', '5', 'F', 'F', '7', '9', ETX),
-     NK_ANSWERED, BYTES(UNIT, '0', '0', '1', '1', ACK), EDITS({WORDS, NK_LOVE, -15})},
-    {"004: read SP1", BYTES(UNIT, '0', '1', '0', '0', '2', '6', ETX), NK_ANSWERED,
-     BYTES(UNIT, '0', '1', '0', '0', '1', '5', 'D', '8', ACK), KEEP},
-    {"01 P10: 5.0 degrees", BYTES(UNIT, '0', '0', 'C', '5', ETX), NK_ANSWERED,
-     BYTES(UNIT, 'C', '0', '0', '0', '0', '0', '5', '0', '4', '9', ACK), KEEP},
-    {"004: checksum error", BYTES(UNIT, '0', '0', 'C', '6', ETX), NK_CHECK_CHARACTER, BYTES(UNIT, 'N', '0', '2', ACK),
-     KEEP},
-    {"004: illegal character", BYTES(UNIT, '0', 'G', 'D', 'C', ETX), NK_FRAME_FORM, BYTES(UNIT, 'N', '0', '4', ACK),
-     KEEP},
-    {"01: 00 with d = 3", BYTES(UNIT, '0', '0', '0', 'F', '5', ETX), NK_FRAME_FORM, BYTES(UNIT, 'N', '0', '5', ACK),
-     KEEP},
-    {"01: a command that is not built", BYTES(UNIT, '0', '1', '0', '6', '2', 'C', ETX), NK_COMMAND_UNKNOWN,
-     BYTES(UNIT, 'N', '0', '1', ACK), KEEP},
-    {"01: sign 01 in a write", BYTES(UNIT, '0', '2', '0', '0', '0', '0', '1', '5', '0', '1', '4', 'E', ETX),
-     NK_VALUE_OUTSIDE, BYTES(UNIT, 'N', '0', '5', ACK), KEEP},
-    {"01: 87.0 to ALHI", BYTES(UNIT, '0', '2', '0', '5', '0', '8', '7', '0', '0', '0', '5', 'B', ETX), NK_ANSWERED,
-     BYTES(UNIT, '0', '0', '1', '1', ACK), EDITS({WORDS, NK_LOVE + 3, 870})},
-    {"01: 87.1 to ALHI", BYTES(UNIT, '0', '2', '0', '5', '0', '8', '7', '1', '0', '0', '5', 'C', ETX), NK_VALUE_OUTSIDE,
-     BYTES(UNIT, 'N', '0', '6', ACK), KEEP},
-    {"01: address 33h", BYTES(STX, 'L', '3', '3', '0', '0', 'C', '6', ETX), NK_FOREIGN_ADDRESS, SILENT, KEEP},
-    {"01: filter of address 132h", BYTES(STX, 'O', '3', '2', '0', '0', 'C', '5', ETX), NK_FOREIGN_ADDRESS, SILENT, KEEP},
-    {"01: no ETX", BYTES(UNIT, '0', '0', 'C', '5', ACK), NK_FRAME_FORM, SILENT, KEEP},
+static const struct way as_bytes_come = {
+    run_as_bytes_come,
+    {"Datalink, as bytes come (02)", "LECOM, as bytes come (02)", "Love, as bytes come (02)",
+     "LucidControl, as bytes come (02)"},
 };
 
-static const struct exchange love_fault[] = {
-    {"01 P9: fault", BYTES(UNIT, '0', '0', 'C', '5', ETX), NK_ANSWERED,
-     BYTES(UNIT, 'D', '0', '0', '0', '0', '0', '0', '0', '4', '5', ACK), KEEP},
-};
-
-static const struct exchange love_cold[] = {
-    {"01: -1.0 degrees", BYTES(UNIT, '0', '0', 'C', '5', ETX), NK_ANSWERED,
-     BYTES(UNIT, 'C', '0', '0', '2', '0', '0', '1', '0', '4', '7', ACK), KEEP},
-};
-
-/* ---- LucidControl: 01 and 002; probe codes 78, 90, 0 and 255 ---- */
-
-static const struct exchange lucid_script[] = {
-    {"01 P11", BYTES(0x46, 0x00, 0x40, 0x00), NK_ANSWERED, BYTES(0x00, 0x02, 0xF6, 0xFF), KEEP},
-    {"01 P12, channel 3", BYTES(0x46, 0x03, 0x40, 0x00), NK_PROBE_FAULT, BYTES(0xD0, 0x00), KEEP},
-    {"01: hundredths", BYTES(0x46, 0x00, 0x41, 0x00), NK_ANSWERED, BYTES(0x00, 0x04, 0x9C, 0xFF, 0xFF, 0xFF), KEEP},
-    {"01: a group of probes", BYTES(0x48, 0x07, 0x40, 0x00), NK_ANSWERED,
-     BYTES(0x00, 0x06, 0xF6, 0xFF, 0x32, 0x00, 0x70, 0xFE), KEEP},
-    {"01: a failed probe refuses its group", BYTES(0x48, 0x0F, 0x40, 0x00), NK_PROBE_FAULT, BYTES(0xD0, 0x00), KEEP},
-    {"002 4.3.5: 750 ms, persistent", BYTES(0xA0, 0x00, 0x80, 0x06, 0x10, 0x11, 0xB0, 0x71, 0x0B, 0x00), NK_ANSWERED,
-     BYTES(0x00, 0x00), EDITS({WORDS, NK_PARAMETERS, 750000}, {WORDS, NK_KEPT, 750000})},
-    {"002 4.3.6: read it", BYTES(0xA2, 0x00, 0x00, 0x02, 0x10, 0x11), NK_ANSWERED,
-     BYTES(0x00, 0x04, 0xB0, 0x71, 0x0B, 0x00), KEEP},
-    {"01: option 01h", BYTES(0xA0, 0x00, 0x01, 0x00), NK_ANSWERED, BYTES(0x00, 0x00),
-     EDITS({WORDS, NK_PARAMETERS, DEFAULT_1110})},
-    {"01: a demand", BYTES(0x40, 0x01, 0x10, 0x02, 0x34, 0x12), NK_ANSWERED, BYTES(0x00, 0x00),
-     EDITS({WORDS, NK_DEMANDS + 1, 0x1234})},
-    {"01: the demand read", BYTES(0x46, 0x01, 0x10, 0x00), NK_ANSWERED, BYTES(0x00, 0x02, 0x34, 0x12), KEEP},
-    {"01: mask 0Fh", BYTES(0x42, 0x0F, 0x10, 0x08, 0x01, 0x00, 0x02, 0x00, 0x03, 0x00, 0x04, 0x80), NK_ANSWERED,
-     BYTES(0x00, 0x00),
-     EDITS({WORDS, NK_DEMANDS, 1}, {WORDS, NK_DEMANDS + 1, 2}, {WORDS, NK_DEMANDS + 2, 3},
-           {WORDS, NK_DEMANDS + 3, 0x8004})},
-    {"01: mask 09h read", BYTES(0x48, 0x09, 0x10, 0x00), NK_ANSWERED, BYTES(0x00, 0x04, 0x01, 0x00, 0x04, 0x80), KEEP},
-    {"01: mask 10h", BYTES(0x48, 0x10, 0x10, 0x00), NK_RANGE_UNKNOWN, BYTES(0xB2, 0x00), KEEP},
-    {"01: channel 4", BYTES(0x46, 0x04, 0x40, 0x00), NK_RANGE_UNKNOWN, BYTES(0xB8, 0x00), KEEP},
-    {"002 4.3.1: type 1Dh", BYTES(0x46, 0x03, 0x1D, 0x00), NK_VALUE_OUTSIDE, BYTES(0xB6, 0x00), KEEP},
-    {"01: probe written", BYTES(0x40, 0x00, 0x40, 0x02, 0x00, 0x00), NK_READ_ONLY, BYTES(0xB6, 0x00), KEEP},
-    {"01: option 02h", BYTES(0xA0, 0x00, 0x02, 0x00), NK_VALUE_OUTSIDE, BYTES(0xB4, 0x00), KEEP},
-    {"01: parameter 1130h", BYTES(0xA2, 0x00, 0x00, 0x02, 0x30, 0x11), NK_RANGE_UNKNOWN, BYTES(0xBA, 0x00), KEEP},
-    {"01: 65536 to 1120h", BYTES(0xA0, 0x00, 0x00, 0x06, 0x20, 0x11, 0x00, 0x00, 0x01, 0x00), NK_VALUE_OUTSIDE,
-     BYTES(0xC0, 0x00), KEEP},
-    {"01: LEN against slice", BYTES(0x46, 0x00, 0x40, 0x01), NK_FRAME_FORM, BYTES(0xB0, 0x00), KEEP},
-    {"01: LEN for the command", BYTES(0x46, 0x00, 0x40, 0x01, 0x00), NK_FRAME_FORM, BYTES(0xB0, 0x00), KEEP},
-    {"002 4.3.7: calibration is not built", BYTES(0x52, 0x00, 0x00, 0x00), NK_COMMAND_UNKNOWN, BYTES(0xA0, 0x00), KEEP},
-    {"002 4.3.8: identification is not built", BYTES(0xC0, 0x00, 0x00, 0x00), NK_COMMAND_UNKNOWN, BYTES(0xA0, 0x00),
-     KEEP},
-    {"01: shorter than four bytes", BYTES(0x46, 0x00, 0x40), NK_FRAME_FORM, SILENT, KEEP},
-};
-
-static void check_dialects(struct card *card)
+static void check_dialects(struct card *card, const struct way *way)
 {
-    begin("Datalink (01, 003)");
+    begin(way->groups[DATALINK]);
     probe(card, 0, 90);
     probe(card, 1, 78);
     probe(card, 2, 0);
-    run(card, DATALINK, datalink_script, COUNT(datalink_script));
+    way->run(card, DATALINK, datalink_script, COUNT(datalink_script));
     end();
 
-    begin("LECOM (01, 001)");
-    run(card, LECOM, lecom_script, COUNT(lecom_script));
+    begin(way->groups[LECOM]);
+    way->run(card, LECOM, lecom_script, COUNT(lecom_script));
     end();
 
-    begin("Love (01, 004)");
-    run(card, LOVE, love_script, COUNT(love_script));
+    begin(way->groups[LOVE]);
+    way->run(card, LOVE, love_script, COUNT(love_script));
     probe(card, 0, FAULT_CODE);
-    run(card, LOVE, love_fault, COUNT(love_fault));
+    way->run(card, LOVE, love_fault, COUNT(love_fault));
     probe(card, 0, 78);
-    run(card, LOVE, love_cold, COUNT(love_cold));
+    way->run(card, LOVE, love_cold, COUNT(love_cold));
     end();
 
-    begin("LucidControl (01, 002)");
+    begin(way->groups[LUCID]);
     probe(card, 1, 90);
-    run(card, LUCID, lucid_script, COUNT(lucid_script));
+    way->run(card, LUCID, lucid_script, COUNT(lucid_script));
     end();
 }
 
@@ -488,7 +324,8 @@ static void check_image(struct card *card)
 
 static void check_restart(struct card *card)
 {
-    begin("restart (01)");
+    begin("restart (01, 02)");
+    begin_frames(card);
     struct card expected = *card;
     memcpy(&expected.words[NK_BUFFER], &card->words[NK_SAVED], NK_REGISTERS * sizeof *card->words);
     memcpy(&expected.words[NK_OPERATIONAL], &card->words[NK_SAVED], NK_REGISTERS * sizeof *card->words);
@@ -497,7 +334,9 @@ static void check_restart(struct card *card)
         expected.words[NK_DEMANDS + channel] = FULL_DEMAND;
         expected.memory[NK_CODES + channel] = FAULT_CODE;
     }
-    expected.pending[NK_KIND] = 0;
+    expected.ports[NK_KIND] = 0;
+    for (size_t i = 0; i < DIALECTS; i++)
+        memset(&expected.ports[parts[i].place], 0, COUNT_SIZE);
     check(memcmp(&expected, card, sizeof expected) != 0, "restart", "has something to do");
     check_number(nk_restart(TABLES(card)), NK_DONE, "restart");
     check_tables(card, &expected, "restart");
@@ -679,6 +518,68 @@ static uint8_t call_lucid(const struct lent *t, size_t room, struct answer *answ
     return nk_lucid(LENT(t), demand_frame, sizeof demand_frame, answer->bytes, room, &answer->len);
 }
 
+/* A receiver's entry, with the frame of its dialect: a call that is refused takes no byte. */
+typedef uint8_t receiver(const uint32_t *words, size_t words_count, const uint8_t *memory, size_t memory_count,
+                         uint8_t *ports, size_t ports_count, const uint8_t *bytes, size_t bytes_count, uint8_t *frame,
+                         size_t frame_count, size_t *taken, size_t *len);
+
+static uint8_t call_receiver(receiver *nk_receive, const struct lent *t, const uint8_t *bytes, size_t count,
+                             size_t room, struct answer *answer)
+{
+    size_t taken = ROOM;
+    uint8_t number = nk_receive(LENT(t), bytes, count, answer->bytes, room, &taken, &answer->len);
+    check(taken == (number == NK_ANSWERED ? count : 0), "a receiver", "bytes taken");
+    return number;
+}
+
+static uint8_t call_receive_datalink(const struct lent *t, size_t room, struct answer *answer)
+{
+    return call_receiver(nk_receive_datalink, t, acknowledge_frame, sizeof acknowledge_frame, room, answer);
+}
+
+static uint8_t call_receive_lecom(const struct lent *t, size_t room, struct answer *answer)
+{
+    return call_receiver(nk_receive_lecom, t, activate_frame, sizeof activate_frame, room, answer);
+}
+
+static uint8_t call_receive_love(const struct lent *t, size_t room, struct answer *answer)
+{
+    return call_receiver(nk_receive_love, t, write_frame, sizeof write_frame, room, answer);
+}
+
+static uint8_t call_receive_lucid(const struct lent *t, size_t room, struct answer *answer)
+{
+    return call_receiver(nk_receive_lucid, t, demand_frame, sizeof demand_frame, room, answer);
+}
+
+static uint8_t call_quiet_datalink(const struct lent *t, size_t room, struct answer *answer)
+{
+    (void)room;
+    answer->len = 0;
+    return nk_quiet_datalink(LENT(t));
+}
+
+static uint8_t call_quiet_lecom(const struct lent *t, size_t room, struct answer *answer)
+{
+    (void)room;
+    answer->len = 0;
+    return nk_quiet_lecom(LENT(t));
+}
+
+static uint8_t call_quiet_love(const struct lent *t, size_t room, struct answer *answer)
+{
+    (void)room;
+    answer->len = 0;
+    return nk_quiet_love(LENT(t));
+}
+
+static uint8_t call_quiet_lucid(const struct lent *t, size_t room, struct answer *answer)
+{
+    (void)room;
+    answer->len = 0;
+    return nk_quiet_lucid(LENT(t));
+}
+
 static uint8_t call_write_image(const struct lent *t, size_t room, struct answer *answer)
 {
     return nk_write_image(LENT(t), answer->bytes, room, &answer->len);
@@ -694,25 +595,35 @@ static uint8_t call_read_image(const struct lent *t, size_t room, struct answer 
 static const struct entry {
     const char *name;
     uint8_t (*call)(const struct lent *t, size_t room, struct answer *answer);
-    uint8_t number;      /* on the fit card */
-    size_t room_least;   /* 0: the entry has no buffer */
+    uint8_t number;       /* on the fit card */
+    size_t room_least;    /* 0: the entry has no buffer */
+    uint8_t short_number; /* with a shorter buffer */
+    bool sees_parts;      /* whether it looks at the part frames */
 } entries[] = {
-    {"nk_set_code", call_set_code, NK_DONE, 0},
-    {"nk_restart", call_restart, NK_DONE, 0},
-    {"nk_governor", call_governor, NK_ANSWERED, 0},
-    {"nk_datalink", call_datalink, NK_DONE, NK_ROOM},
-    {"nk_lecom", call_lecom, NK_ANSWERED, NK_ROOM},
-    {"nk_love", call_love, NK_ANSWERED, NK_ROOM},
-    {"nk_lucid", call_lucid, NK_ANSWERED, NK_ROOM},
-    {"nk_write_image", call_write_image, NK_ANSWERED, NK_IMAGE},
-    {"nk_read_image", call_read_image, NK_DONE, 0},
+    {"nk_set_code", call_set_code, NK_DONE, 0, 0, false},
+    {"nk_restart", call_restart, NK_DONE, 0, 0, false},
+    {"nk_governor", call_governor, NK_ANSWERED, 0, 0, false},
+    {"nk_datalink", call_datalink, NK_DONE, NK_ROOM, NK_BUFFER_SHORT, false},
+    {"nk_lecom", call_lecom, NK_ANSWERED, NK_ROOM, NK_BUFFER_SHORT, false},
+    {"nk_love", call_love, NK_ANSWERED, NK_ROOM, NK_BUFFER_SHORT, false},
+    {"nk_lucid", call_lucid, NK_ANSWERED, NK_ROOM, NK_BUFFER_SHORT, false},
+    {"nk_receive_datalink", call_receive_datalink, NK_ANSWERED, NK_DATALINK_LONGEST, NK_FRAME_BUFFER_SHORT, true},
+    {"nk_receive_lecom", call_receive_lecom, NK_ANSWERED, NK_LECOM_LONGEST, NK_FRAME_BUFFER_SHORT, true},
+    {"nk_receive_love", call_receive_love, NK_ANSWERED, NK_LOVE_LONGEST, NK_FRAME_BUFFER_SHORT, true},
+    {"nk_receive_lucid", call_receive_lucid, NK_ANSWERED, NK_LUCID_LONGEST, NK_FRAME_BUFFER_SHORT, true},
+    {"nk_quiet_datalink", call_quiet_datalink, NK_DONE, 0, 0, true},
+    {"nk_quiet_lecom", call_quiet_lecom, NK_DONE, 0, 0, true},
+    {"nk_quiet_love", call_quiet_love, NK_DONE, 0, 0, true},
+    {"nk_quiet_lucid", call_quiet_lucid, NK_DONE, 0, 0, true},
+    {"nk_write_image", call_write_image, NK_ANSWERED, NK_IMAGE, NK_BUFFER_SHORT, false},
+    {"nk_read_image", call_read_image, NK_DONE, 0, 0, false},
 };
 
 /* A fit card on which each of these calls is carried out. */
 static void card_ready(struct card *card)
 {
-    const struct edit edits[] = {{MEMORY, NK_CODES + 1, 78},  {PENDING, NK_KIND, 1}, {PENDING, 1, 1}, {PENDING, 2, 0x20},
-                                 {PENDING, 3, 0x10},          {PENDING, 4, 0x5A},    {WORDS, NK_BUFFER, 9873}};
+    const struct edit edits[] = {
+        {MEMORY, NK_CODES + 1, 78}, PENDING(1, 1, 0x20, 0x10), {PORTS, NK_DATA, 0x5A}, {WORDS, NK_BUFFER, 9873}};
     card_default(card);
     card->words[NK_LOVE] = 870;
     expected_image(card, image_of_another);
@@ -748,7 +659,7 @@ static void check_carried_out(void)
 struct roomy {
     uint32_t words[NK_WORDS + 1];
     uint8_t memory[NK_MEMORY + 1];
-    uint8_t pending[NK_PENDING + 1];
+    uint8_t ports[NK_PORTS + 1];
 };
 
 /* Zero, null with zero, one less and one more of one table's elements. */
@@ -759,19 +670,19 @@ static void check_length(const struct entry *entry, enum table table)
     card_ready(&card);
     memcpy(roomy.words, card.words, sizeof card.words);
     memcpy(roomy.memory, card.memory, sizeof card.memory);
-    memcpy(roomy.pending, card.pending, sizeof card.pending);
+    memcpy(roomy.ports, card.ports, sizeof card.ports);
     memcpy(&expected, &roomy, sizeof roomy);
     for (unsigned i = 0; i < 4; i++) {
         struct lent tables = {TABLES(&roomy)};
-        size_t *count = table == WORDS ? &tables.words_count : table == MEMORY ? &tables.memory_count : &tables.pending_count;
+        size_t *count = table == WORDS ? &tables.words_count : table == MEMORY ? &tables.memory_count : &tables.ports_count;
         const size_t counts[] = {0, 0, *count - 1, *count + 1};
         *count = counts[i];
         if (i == 1 && table == WORDS)
             tables.words = NULL;
         if (i == 1 && table == MEMORY)
             tables.memory = NULL;
-        if (i == 1 && table == PENDING)
-            tables.pending = NULL;
+        if (i == 1 && table == PORTS)
+            tables.ports = NULL;
         struct answer answer = painted();
         check_number(entry->call(&tables, ROOM, &answer), NK_CARD_UNFIT, entry->name);
         check_answer(&answer, NULL, 0, entry->name);
@@ -785,7 +696,7 @@ static void check_lengths(void)
     for (const struct entry *e = entries; e < entries + COUNT(entries); e++) {
         check_length(e, WORDS);
         check_length(e, MEMORY);
-        check_length(e, PENDING);
+        check_length(e, PORTS);
     }
     end();
 }
@@ -804,9 +715,9 @@ static const struct edit unfit_edits[] = {
     {WORDS, NK_BUFFER, 1000000},
     {WORDS, NK_OPERATIONAL + 50, -1000000},
     {WORDS, NK_SAVED + 95, INT32_MIN},
-    {PENDING, NK_KIND, 3},
-    {PENDING, 1, 33},
-    {PENDING, 2, 0x0F},
+    {PORTS, NK_KIND, 3},
+    {PORTS, NK_NUM, 33},
+    {PORTS, NK_LOW_ADDRESS, 0x0F},
 };
 
 static void check_unfit_entries(void)
@@ -824,17 +735,71 @@ static void check_unfit_entries(void)
     end();
 }
 
+/* Bytes to which no line leads, as a dialect's part frame. */
+static const struct bad_part {
+    enum dialect dialect;
+    const uint8_t *bytes;
+    size_t count;
+} bad_parts[] = {
+    {DATALINK, BYTES(0x7F)},
+    {DATALINK, BYTES(0x7E, 0x23)},
+    {DATALINK, BYTES(0x7E, 0x83)},
+    {DATALINK, BYTES(0x7E, 0xA3, 33)},
+    {DATALINK, BYTES(0x7E, 0xE3, 0, 0x00, 0x10, 0xF3)},
+    {LECOM, BYTES('1')},
+    {LECOM, BYTES(EOT, EOT)},
+    {LECOM, BYTES(EOT, ENQ)},
+    {LECOM, BYTES(EOT, STX, ETX, 'x')},
+    {LOVE, BYTES('L')},
+    {LOVE, BYTES(STX, STX)},
+    {LOVE, BYTES(STX, ETX)},
+    {LUCID, BYTES(0x46, 0, 0x40, 0)},
+};
+
+/* The receivers refuse this row with 12; every other entry is carried out, for it does not look at part frames. */
+static void check_part(const struct card *card)
+{
+    for (const struct entry *e = entries; e < entries + COUNT(entries); e++) {
+        struct card own = *card;
+        struct lent tables = lend(&own);
+        struct answer answer = painted();
+        if (e->sees_parts)
+            check_refused(e, &own, &tables, ROOM, NK_CARD_UNFIT);
+        else
+            check_number(e->call(&tables, ROOM, &answer), e->number, e->name);
+    }
+}
+
+static void check_unfit_parts(void)
+{
+    begin("a part frame outside the rules: 12 of the receivers (02)");
+    for (const struct bad_part *b = bad_parts; b < bad_parts + COUNT(bad_parts); b++) {
+        struct card card;
+        card_ready(&card);
+        card.ports[parts[b->dialect].place] = (uint8_t)b->count;
+        memcpy(&card.ports[parts[b->dialect].place + COUNT_SIZE], b->bytes, b->count);
+        check_part(&card);
+    }
+    for (size_t i = 0; i < DIALECTS; i++) {
+        struct card card;
+        card_ready(&card);
+        memset(&card.ports[parts[i].place], 0xFF, COUNT_SIZE); /* far more bytes than the longest frame has */
+        check_part(&card);
+    }
+    end();
+}
+
 static void check_rooms(void)
 {
-    begin("an answer buffer of 0 and of one byte too few: 11");
+    begin("a buffer of 0 and of one byte too few: 11, or 16");
     for (const struct entry *e = entries; e < entries + COUNT(entries); e++) {
         if (e->room_least == 0)
             continue;
         struct card card;
         card_ready(&card);
         struct lent tables = lend(&card);
-        check_refused(e, &card, &tables, 0, NK_BUFFER_SHORT);
-        check_refused(e, &card, &tables, e->room_least - 1, NK_BUFFER_SHORT);
+        check_refused(e, &card, &tables, 0, e->short_number);
+        check_refused(e, &card, &tables, e->room_least - 1, e->short_number);
         struct answer answer = painted();
         check_number(e->call(&tables, e->room_least, &answer), e->number, e->name);
     }
@@ -846,13 +811,19 @@ int main(void)
     struct card card;
     card_default(&card);
     check_probes(&card);
-    check_dialects(&card);
+    check_dialects(&card, &whole);
     check_image(&card);
     check_restart(&card);
+    card_default(&card);
+    check_dialects(&card, &as_bytes_come);
+    check_lines();
+    check_longest();
+    check_together();
     check_master();
     check_carried_out();
     check_lengths();
     check_unfit_entries();
+    check_unfit_parts();
     check_rooms();
     printf("%u checks passed\n", checks);
     return EXIT_SUCCESS;

@@ -1,11 +1,12 @@
 /* A small card over the proved library: its tables, its loop's body, a request of every dialect with the answer that the
- * papers give it, the governor's reading, and the saved image.
+ * papers give it, the same requests as bytes come at interrupts, the governor's reading, and the saved image.
  *
  * Build and run, from the repository's root (./card does this, and then the same with checks.c beside it):
  *     rt staticlib firmware
  *     gcc -std=c11 -Wall -Wextra -Werror -O2 -Iinclude examples/firmware/main.c target/staticlib/libfirmware.a -o target/card
  *     target/card
  */
+#include <stdbool.h>
 #include <stdio.h>
 #include <stdlib.h>
 #include <string.h>
@@ -18,11 +19,11 @@ enum { CHANNELS = 4, FAULT_CODE = 255, FULL_DEMAND = 65535, DEFAULT_1110 = 10000
 struct card {
     uint32_t words[NK_WORDS];
     uint8_t memory[NK_MEMORY];
-    uint8_t pending[NK_PENDING];
+    uint8_t ports[NK_PORTS];
 };
 
 /* The six arguments that begin every call of the card. */
-#define TABLES(card) (card)->words, NK_WORDS, (card)->memory, NK_MEMORY, (card)->pending, NK_PENDING
+#define TABLES(card) (card)->words, NK_WORDS, (card)->memory, NK_MEMORY, (card)->ports, NK_PORTS
 
 /* The card before its first saved image: its addresses, its defaults, failed probes, everything else zero. */
 static void card_default(struct card *card)
@@ -57,6 +58,72 @@ static uint8_t serve(struct card *card, enum dialect dialect, const uint8_t *fra
         return nk_lucid(TABLES(card), frame, count, answer, room, len);
     }
     abort();
+}
+
+/* Bytes that came on a dialect's line go to its receiver. */
+static uint8_t receive(struct card *card, enum dialect dialect, const uint8_t *bytes, size_t count, uint8_t *frame,
+                       size_t room, size_t *taken, size_t *len)
+{
+    switch (dialect) {
+    case DATALINK:
+        return nk_receive_datalink(TABLES(card), bytes, count, frame, room, taken, len);
+    case LECOM:
+        return nk_receive_lecom(TABLES(card), bytes, count, frame, room, taken, len);
+    case LOVE:
+        return nk_receive_love(TABLES(card), bytes, count, frame, room, taken, len);
+    case LUCID:
+        return nk_receive_lucid(TABLES(card), bytes, count, frame, room, taken, len);
+    }
+    abort();
+}
+
+/* The dialect's line was silent for longer than a pause within a frame may last. */
+static uint8_t quiet(struct card *card, enum dialect dialect)
+{
+    switch (dialect) {
+    case DATALINK:
+        return nk_quiet_datalink(TABLES(card));
+    case LECOM:
+        return nk_quiet_lecom(TABLES(card));
+    case LOVE:
+        return nk_quiet_love(TABLES(card));
+    case LUCID:
+        return nk_quiet_lucid(TABLES(card));
+    }
+    abort();
+}
+
+/* The transmitter of the line: here what the card sends is kept, to be compared. */
+static struct {
+    uint8_t bytes[2 * NK_ROOM];
+    size_t count;
+} sent;
+
+static void transmit(const uint8_t *answer, size_t len)
+{
+    if (len > sizeof sent.bytes - sent.count)
+        abort();
+    memcpy(sent.bytes + sent.count, answer, len);
+    sent.count += len;
+}
+
+/* An interrupt's body, to be copied: some bytes came on a dialect's line. Each frame that they finish goes to the dialect's
+ * entry, and the rest is lent again. NK_DONE when all bytes are taken; else the number of the refusal, and the bytes behind
+ * those taken are lost. */
+static uint8_t bytes_came(struct card *card, enum dialect dialect, const uint8_t *bytes, size_t count)
+{
+    uint8_t frame[NK_LUCID_LONGEST], answer[NK_ROOM];
+    size_t taken, frame_len, answer_len;
+    for (size_t at = 0; at < count; at += taken) {
+        uint8_t number = receive(card, dialect, bytes + at, count - at, frame, sizeof frame, &taken, &frame_len);
+        if (number != NK_ANSWERED && number != NK_DONE)
+            return number; /* 12 or 16: no byte was taken, and none would be the next time */
+        if (number == NK_ANSWERED) {
+            serve(card, dialect, frame, frame_len, answer, sizeof answer, &answer_len); /* the number is for the log */
+            transmit(answer, answer_len);
+        }
+    }
+    return NK_DONE;
 }
 
 /* What a line brings, and what the card answers by the papers. Probe 0 has code 90, which is 5.0 degrees. */
@@ -100,6 +167,72 @@ static void govern(struct card *card, uint32_t channel)
         printf("governor, channel %u: no degrees, number %u\n", (unsigned)channel, number);
 }
 
+/* Since the last look the card has sent this many times the answer to a request, and nothing else. */
+static bool has_sent(const struct request *r, size_t times)
+{
+    bool same = sent.count == times * r->answer_count;
+    for (size_t i = 0; same && i < times; i++)
+        same = memcmp(sent.bytes + i * r->answer_count, r->answer, r->answer_count) == 0;
+    sent.count = 0;
+    return same;
+}
+
+/* The frame comes in two calls, divided at a place. */
+static bool is_served_in_two(struct card *card, const struct request *r, size_t place)
+{
+    return bytes_came(card, r->dialect, r->frame, place) == NK_DONE &&
+           bytes_came(card, r->dialect, r->frame + place, r->count - place) == NK_DONE && has_sent(r, 1);
+}
+
+static bool is_served_byte_by_byte(struct card *card, const struct request *r)
+{
+    bool taken = true;
+    for (size_t i = 0; i < r->count; i++)
+        taken = taken && has_sent(r, 0) && bytes_came(card, r->dialect, r->frame + i, 1) == NK_DONE;
+    return taken && has_sent(r, 1);
+}
+
+/* Two frames come in one call, which the loop lends again behind the first. */
+static bool is_served_twice(struct card *card, const struct request *r)
+{
+    uint8_t both[2 * NK_LUCID_LONGEST];
+    memcpy(both, r->frame, r->count);
+    memcpy(both + r->count, r->frame, r->count);
+    return bytes_came(card, r->dialect, both, 2 * r->count) == NK_DONE && has_sent(r, 2);
+}
+
+/* Bytes of no frame send nothing, and what is left of them is dropped by quiet: the frame behind it is answered. */
+static bool is_served_behind(struct card *card, const struct request *r, const uint8_t *bytes, size_t count)
+{
+    return bytes_came(card, r->dialect, bytes, count) == NK_DONE && has_sent(r, 0) &&
+           quiet(card, r->dialect) == NK_DONE && bytes_came(card, r->dialect, r->frame, r->count) == NK_DONE &&
+           has_sent(r, 1);
+}
+
+/* A request as bytes come, in all these ways, has the same answer as its whole frame. */
+static bool is_served_as_it_comes(struct card *card, const struct request *r)
+{
+    static const uint8_t noise[] = {0x55, 0x00, 0x20};
+    bool same = is_served_byte_by_byte(card, r) && is_served_twice(card, r);
+    for (size_t place = 0; same && place < r->count; place++)
+        same = is_served_in_two(card, r, place) && is_served_behind(card, r, r->frame, place);
+    return same && is_served_behind(card, r, noise, sizeof noise);
+}
+
+/* The requests once more, each as its bytes come. */
+static bool show_receivers(struct card *card)
+{
+    printf("as bytes come: divided at every place, byte by byte, two in one call, behind noise, and after quiet\n");
+    for (const struct request *r = requests; r < requests + sizeof requests / sizeof *requests; r++) {
+        if (!is_served_as_it_comes(card, r)) {
+            fprintf(stderr, "FAILED: as bytes come: %s\n", r->name);
+            return false;
+        }
+        printf("    %s: %zu bytes, the same answer each time\n", r->name, r->count);
+    }
+    return true;
+}
+
 int main(void)
 {
     static struct card card;
@@ -121,6 +254,8 @@ int main(void)
             return EXIT_FAILURE;
         }
     }
+    if (!show_receivers(&card))
+        return EXIT_FAILURE;
     /* The image is kept after a STORE; a card whose supply comes back is set up, reads it and restarts. */
     if (nk_write_image(TABLES(&card), image, sizeof image, &len) != NK_ANSWERED)
         return EXIT_FAILURE;

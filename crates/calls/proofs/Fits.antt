@@ -11,10 +11,12 @@ use Rattle.datalink.proofs.Fits.{stays-fit as datalink-fit}
 use Rattle.lecom.proofs.Fits.{stays-fit as lecom-fit}
 use Rattle.love.proofs.Fits.{stays-fit as love-fit}
 use Rattle.lucid.proofs.Fits.{Bytes, stays-fit as lucid-fit}
+use Rattle.receive.proofs.Fits.{receive-stays-fit, quiet-stays-fit}
 use Rattle.image.proofs.Fits.{write-stays-fit, read-stays-fit}
-use Rattle.calls.specs.Calls.{Dialect, Call, frameReply, replyOf}
-use Rattle.calls.specs.Calls.Dialect.{Datalink, Lecom, Love, Lucid}
-use Rattle.calls.specs.Calls.Call.{SetCode, Restart, Governor, Frame, WriteImage, ReadImage}
+use Rattle.receive.specs.declared.Dialect.{Dialect}
+use Rattle.receive.specs.declared.Dialect.the-variants.{Datalink, Lecom, Love, Lucid}
+use Rattle.calls.specs.Calls.{Call, frameReply, replyOf}
+use Rattle.calls.specs.Calls.Call.{SetCode, Restart, Governor, Frame, Receive, Quiet, WriteImage, ReadImage}
 
 -- the frame of a call is one of bytes
 abbrev pub FrameOfBytes : Call → Type 0
@@ -22,6 +24,8 @@ FrameOfBytes (SetCode channel code) = Unit {0}
 FrameOfBytes Restart = Unit {0}
 FrameOfBytes (Governor channel) = Unit {0}
 FrameOfBytes (Frame dialect room f) = Bytes f
+FrameOfBytes (Receive dialect room bytes) = Unit {0}
+FrameOfBytes (Quiet dialect) = Unit {0}
 FrameOfBytes (WriteImage room) = Unit {0}
 FrameOfBytes (ReadImage img) = Unit {0}
 
@@ -38,5 +42,7 @@ stays-fit card (SetCode channel code) b e = set-code-stays-fit card channel code
 stays-fit card Restart b e = restart-stays-fit card e
 stays-fit card (Governor channel) b e = governor-stays-fit card channel e
 stays-fit card (Frame dialect room f) b e = frame-stays-fit card dialect room f b e
+stays-fit card (Receive dialect room bytes) b e = receive-stays-fit card dialect room bytes e
+stays-fit card (Quiet dialect) b e = quiet-stays-fit card dialect e
 stays-fit card (WriteImage room) b e = write-stays-fit card room e
 stays-fit card (ReadImage img) b e = read-stays-fit card img e

@@ -9,12 +9,13 @@ use Prim.Native.Nat.{ℕ, _+_, _-_, _≤_}
 use native.Mathlib.Omega.{arith}
 use borrow.Author.Tests.{leb-true, ltb-true}
 use lib.Dec.{leb, ltb}
-use lib.ListN.{getD, drop, replicate}
+use lib.ListN.{getD, take, drop, replicate}
 use lib.Seq.{getD-drop, getD-append-add, getD-set-other}
 use Rattle.wire.specs.Buffer.{put}
 use Rattle.wire.proofs.Cases.{by-choice}
 use Rattle.card.specs.Numbers.{foreignAddress, cardUnfit, bufferShort, rangeUnknown}
-use Rattle.card.specs.Layout.{Card, channels, kindAt}
+use Rattle.card.specs.Layout.{Card, channels, kindAt, pendingSize}
+use Rattle.card.specs.Row.{noParts}
 use Rattle.card.specs.Change.{memoryStart, writableStart, noChange}
 use Rattle.card.specs.Fitness.{fit}
 use Rattle.card.specs.Probe.{faultCode}
@@ -28,20 +29,22 @@ use Rattle.datalink.proofs.Laws.{keeps as datalink-keeps}
 use Rattle.lecom.specs.Answer.{lecomReply}
 use Rattle.love.specs.Answer.{loveReply}
 use Rattle.lucid.specs.Answer.{lucidReply}
+use Rattle.receive.proofs.Laws.{PartAlone, receive-either, quiet-either}
 use Rattle.image.specs.Form.{imageSize}
 use Rattle.image.specs.Entries.{writeImage, readImage}
-use Rattle.image.proofs.Laws.{read-memory, read-pending}
-use Rattle.calls.specs.Calls.{Dialect, Call, frameReply, replyOf, refused, writes, frameWrites, asksWrite}
-use Rattle.calls.specs.Calls.Dialect.{Datalink, Lecom, Love, Lucid}
-use Rattle.calls.specs.Calls.Call.{SetCode, Restart, Governor, Frame, WriteImage, ReadImage}
+use Rattle.image.proofs.Laws.{read-memory, read-ports}
+use Rattle.receive.specs.declared.Dialect.{Dialect}
+use Rattle.receive.specs.declared.Dialect.the-variants.{Datalink, Lecom, Love, Lucid}
+use Rattle.calls.specs.Calls.{Call, frameReply, replyOf, refused, writes, frameWrites, asksWrite}
+use Rattle.calls.specs.Calls.Call.{SetCode, Restart, Governor, Frame, Receive, Quiet, WriteImage, ReadImage}
 
 -- memory from 1010h on is the same
 pub record Same (card card′ : Card) : Type 0 where
   pub at : (j : ℕ) → writableStart - memoryStart ≤ j → getD (card′ .memory) j 0 ≡ getD (card .memory) j 0
 
 -- nothing is pending
-pub record None (pending : List ℕ) : Type 0 where
-  pub kind : getD pending kindAt 0 ≡ noChange
+pub record None (ports : List ℕ) : Type 0 where
+  pub kind : getD ports kindAt 0 ≡ noChange
 
 pub none-dropped : (p : List ℕ) → None (dropped p)
 unfolding dropped
@@ -51,10 +54,10 @@ none-dropped (x ∷ p) = record { kind = refl }
 -- every other call of the card: memory from 1010h on stays, and the pending change stays or is dropped
 pub record Mild (card card′ : Card) : Type 0 where
   pub memory : Same card card′
-  pub pending : (card′ .pending ≡ card .pending) ⊎ None (card′ .pending)
+  pub ports : (take pendingSize (card′ .ports) ≡ take pendingSize (card .ports)) ⊎ None (card′ .ports)
 
 mild-self : (card card′ : Card) → card′ ≡ card → Mild card card′
-mild-self card card′ e = subst (Mild card) (sym e) (record { memory = record { at = λ j h. refl }; pending = inl refl })
+mild-self card card′ e = subst (Mild card) (sym e) (record { memory = record { at = λ j h. refl }; ports = inl refl })
 
 abbrev MildReply : Card → Reply → Type 0
 MildReply card r = Mild card (r .card)
@@ -72,8 +75,12 @@ mild-shell least card room r m =
     by-choice (MildReply card) (fit card) _ _ (λ _. by-choice (MildReply card) (leb least room) _ _ (λ _. m) (λ _. mild-silent card bufferShort)) (λ _. mild-silent card cardUnfit)
 
 -- a meaning over the words alone
-mild-words : (card card′ : Card) → card′ .memory ≡ card .memory → card′ .pending ≡ card .pending → Mild card card′
-mild-words card card′ m p = record { memory = record { at = λ j h. ap (λ (l : List ℕ). getD l j 0) m }; pending = inl p }
+mild-words : (card card′ : Card) → card′ .memory ≡ card .memory → card′ .ports ≡ card .ports → Mild card card′
+mild-words card card′ m p = record { memory = record { at = λ j h. ap (λ (l : List ℕ). getD l j 0) m }; ports = inl (ap (take pendingSize) p) }
+
+-- a receiver's call
+mild-part : (card card′ : Card) → PartAlone card card′ → Mild card card′
+mild-part card card′ a = record { memory = record { at = λ j h. ap (λ (l : List ℕ). getD l j 0) (a .memory) }; ports = inl (a .pending) }
 
 mild-restart : (card : Card) → Mild card (restart card .card)
 unfolding restart restarted faulted put
@@ -86,7 +93,7 @@ mild-restart card =
             subst (λ (x : ℕ). getD (replicate channels faultCode ++ drop channels (card .memory)) x 0 ≡ getD (card .memory) x 0) u
             (getD-append-add (replicate channels faultCode) (drop channels (card .memory)) (j - channels) 0 ∙ getD-drop channels (card .memory) (j - channels) 0);
       };
-      pending = inr (none-dropped (card .pending));
+      ports = inr (none-dropped (noParts (card .ports)));
     })
 
 mild-code : (card : Card) (channel code : ℕ) → MildReply card (setCode card channel code)
@@ -94,11 +101,11 @@ unfolding setCode withCode
 mild-code card channel code =
     mild-guarded card _
     (by-choice (MildReply card) (ltb channel channels) _ _
-    (λ t. record { memory = record { at = λ j h. getD-set-other (card .memory) channel j code 0 (λ u. omega (arith, ltb-true channel channels t)) }; pending = inl refl })
+    (λ t. record { memory = record { at = λ j h. getD-set-other (card .memory) channel j code 0 (λ u. omega (arith, ltb-true channel channels t)) }; ports = inl refl })
     (λ _. mild-silent card rangeUnknown))
 
 mild-read : (card : Card) (img : List ℕ) → MildReply card (readImage card img)
-mild-read card img = mild-words card _ (read-memory card img) (read-pending card img)
+mild-read card img = mild-words card _ (read-memory card img) (read-ports card img)
 
 -- a Datalink frame that asks for no change and no acknowledge
 unasked : (card : Card) (f : List ℕ) (o : Order) → writes o ≡ false → obeyed card f o .card ≡ card
@@ -130,5 +137,7 @@ mild card (SetCode channel code) calm = mild-code card channel code
 mild card Restart calm = mild-restart card
 mild card (Governor channel) calm = mild-self card card refl
 mild card (Frame dialect room f) calm = mild-frame card dialect room f calm
+mild card (Receive dialect room bytes) calm = receive-either card (MildReply card) (λ number h. mild-silent card number) (λ bytes card′ a. mild-part card card′ a) dialect room bytes
+mild card (Quiet dialect) calm = quiet-either card (MildReply card) (λ number h. mild-silent card number) (λ bytes card′ a. mild-part card card′ a) dialect
 mild card (WriteImage room) calm = mild-shell imageSize card room _ (mild-self card card refl)
 mild card (ReadImage img) calm = mild-read card img

@@ -15,15 +15,12 @@ use Rattle.datalink.specs.declared.frame.Order.the-variants.{Silent, Interrogat
 use Rattle.lecom.specs.Answer.{lecomReply}
 use Rattle.love.specs.Answer.{loveReply}
 use Rattle.lucid.specs.Answer.{lucidReply}
+use Rattle.receive.specs.Receive.{receiveReply, quietReply}
+use Rattle.receive.specs.declared.Dialect.{Dialect}
+use Rattle.receive.specs.declared.Dialect.the-variants.{Datalink, Lecom, Love, Lucid}
 use Rattle.image.specs.Entries.{writeImage, readImage}
 
-pub data Dialect : Type 0 where
-  Datalink : Dialect
-  Lecom : Dialect
-  Love : Dialect
-  Lucid : Dialect
-
--- room is the length of an answer buffer, f a frame
+-- room is the length of a lent buffer, f a frame, bytes those that a receiver gets
 pub data Call : Type 0 where
   -- channel, code
   SetCode : ℕ → ℕ → Call
@@ -32,6 +29,9 @@ pub data Call : Type 0 where
   Governor : ℕ → Call
   -- room, f
   Frame : Dialect → ℕ → List ℕ → Call
+  -- room, bytes
+  Receive : Dialect → ℕ → List ℕ → Call
+  Quiet : Dialect → Call
   -- room
   WriteImage : ℕ → Call
   -- the image
@@ -50,6 +50,8 @@ replyOf card (SetCode channel code) = setCode card channel code
 replyOf card Restart = restart card
 replyOf card (Governor channel) = governorReply card channel
 replyOf card (Frame dialect room f) = frameReply card dialect room f
+replyOf card (Receive dialect room bytes) = receiveReply dialect card room bytes .reply
+replyOf card (Quiet dialect) = quietReply dialect card
 replyOf card (WriteImage room) = writeImage card room
 replyOf card (ReadImage img) = readImage card img
 
@@ -76,5 +78,7 @@ asksWrite card (SetCode channel code) = false
 asksWrite card Restart = false
 asksWrite card (Governor channel) = false
 asksWrite card (Frame dialect room f) = frameWrites card dialect f
+asksWrite card (Receive dialect room bytes) = false
+asksWrite card (Quiet dialect) = false
 asksWrite card (WriteImage room) = false
 asksWrite card (ReadImage img) = false

@@ -9,7 +9,7 @@ use lib.Dec.{leb, eqb}
 use lib.ListN.{length, getD}
 use Rattle.wire.specs.Choose.{choose}
 use Rattle.wire.proofs.Tests.{and-true, and-true-right}
-use Rattle.card.specs.Layout.{Card, withWords, iaAt, loveAddressAt, wordCount, memorySize, pendingSize}
+use Rattle.card.specs.Layout.{Card, withWords, iaAt, loveAddressAt, wordCount, memorySize, rowSize}
 use Rattle.card.specs.Change.{fitPending}
 use Rattle.card.specs.Fitness.{inSpan, inRange, fitWords, fit, iaMost, loveAddressMost, loveHundred}
 use Rattle.card.specs.Fit.{Fit}
@@ -21,8 +21,8 @@ unfolding inSpan choose
 span-most hi x z e = leb-true x hi (and-true (leb 0 x) (leb x hi) (rw z at e) .1)
 
 -- the five tests of a fit card
-pub fit-from : (card : Card) → length (card .words) ≡ wordCount → length (card .memory) ≡ memorySize → length (card .pending) ≡ pendingSize
-    → fitWords (card .words) ≡ true → fitPending (card .pending) ≡ true → fit card ≡ true
+pub fit-from : (card : Card) → length (card .words) ≡ wordCount → length (card .memory) ≡ memorySize → length (card .ports) ≡ rowSize
+    → fitWords (card .words) ≡ true → fitPending (card .ports) ≡ true → fit card ≡ true
 unfolding fit
 fit-from card w m p f g = rw (w, m, p, f, g)
 
@@ -42,13 +42,13 @@ unfolding fit
 fit-facts card fits =
     let a = and-true (eqb (length (card .words)) wordCount) _ fits in
     let b = and-true (eqb (length (card .memory)) memorySize) _ (a .1) in
-    let d = and-true (eqb (length (card .pending)) pendingSize) _ (b .1) in
-    let w = and-true (fitWords (card .words)) (fitPending (card .pending)) (d .1) in
+    let d = and-true (eqb (length (card .ports)) rowSize) _ (b .1) in
+    let w = and-true (fitWords (card .words)) (fitPending (card .ports)) (d .1) in
     let l = eqb-true (length (card .words)) wordCount (a .0) in
     record {
       words-length = l;
       memory-length = eqb-true (length (card .memory)) memorySize (b .0);
-      pending-length = eqb-true (length (card .pending)) pendingSize (d .0);
+      ports-length = eqb-true (length (card .ports)) rowSize (d .0);
       words-fit = w .0;
       pending-fit = w .1;
       ia = ia-most (card .words) l (w .0);
@@ -60,4 +60,4 @@ pub fit-words : (card : Card) (ws : List ℕ) → fit card ≡ true → length w
 unfolding fit
 fit-words card ws t l =
     let f = fit-facts card t in
-    rw (l, f .words-length, f .memory-length, f .pending-length, f .pending-fit) (and-true-right (fitWords ws))
+    rw (l, f .words-length, f .memory-length, f .ports-length, f .pending-fit) (and-true-right (fitWords ws))

@@ -13,6 +13,7 @@ use Rattle.wire.proofs.Cases.{by-choice}
 use Rattle.wire.proofs.Buffers.{length-part, length-put}
 use Rattle.card.specs.Layout.{Card, channels, demandsAt, parametersAt, parameterCount, savedParametersAt, registers, bufferAt, operationalAt, savedRegistersAt, wordCount, kindAt}
 use Rattle.card.specs.Change.{fitPending, noChange}
+use Rattle.card.specs.Row.{noParts}
 use Rattle.card.specs.Fitness.{inSpan, inRange, fitWords, fit, demandMost}
 use Rattle.card.specs.Probe.{faultCode}
 use Rattle.card.specs.Entries.{withCode, setCode, registersTo, restoredRegisters, restoredParameters, fullDemands, faulted, dropped, restarted, restart}
@@ -20,6 +21,7 @@ use Rattle.card.specs.Governor.{governorReply}
 use Rattle.card.specs.Reply.{Reply, onWords, WordsReply, shell, guarded}
 use Rattle.card.proofs.Facts.{fit-from, fit-facts}
 use Rattle.card.proofs.Ranges.{at-demand, at-register, parameter-copy, put-fit, copied-fit}
+use Rattle.card.proofs.Rows.{length-no-parts}
 
 abbrev pub IsFit : Reply → Type 0
 IsFit reply = fit (reply .card) ≡ true
@@ -37,7 +39,7 @@ guarded-fit card reply e r = by-choice IsFit (fit card) _ _ (λ _. r) (λ _. e)
 pub words-reply-fit : (card : Card) (reply : WordsReply) → fit card ≡ true → length (reply .words) ≡ wordCount → fitWords (reply .words) ≡ true → IsFit (onWords card reply)
 words-reply-fit card reply e n w =
     let t = fit-facts card e in
-    fit-from (onWords card reply .card) n (t .memory-length) (t .pending-length) w (t .pending-fit)
+    fit-from (onWords card reply .card) n (t .memory-length) (t .ports-length) w (t .pending-fit)
 
 -- a card with nothing pending
 pub dropped-fit : (p : List ℕ) → fitPending (dropped p) ≡ true
@@ -55,7 +57,7 @@ set-code-stays-fit card channel code e =
     let t = fit-facts card e in
     guarded-fit card _ e
     (by-choice IsFit (ltb channel channels) _ _
-    (λ _. fit-from (withCode card channel code) (t .words-length) (length-set (card .memory) channel code ∙ t .memory-length) (t .pending-length) (t .words-fit) (t .pending-fit))
+    (λ _. fit-from (withCode card channel code) (t .words-length) (length-set (card .memory) channel code ∙ t .memory-length) (t .ports-length) (t .words-fit) (t .pending-fit))
     (λ _. e))
 
 -- as many words as a card has, each in its range
@@ -108,7 +110,7 @@ restart-stays-fit card e =
     guarded-fit card _ e
     (fit-from (restarted card) (g .long)
     (length-put (card .memory) 0 (replicate channels faultCode) (omega (arith, t .memory-length)) ∙ t .memory-length)
-    (length-dropped (card .pending) ∙ t .pending-length) (g .fits) (dropped-fit (card .pending)))
+    (length-dropped (noParts (card .ports)) ∙ length-no-parts (card .ports) ∙ t .ports-length) (g .fits) (dropped-fit (noParts (card .ports))))
 
 pub governor-stays-fit : (card : Card) (channel : ℕ) → fit card ≡ true → IsFit (governorReply card channel)
 governor-stays-fit card channel e = e

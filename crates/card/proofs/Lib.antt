@@ -9,5 +9,6 @@ pub mod Floats
 pub mod Governed
 pub mod Probes
 pub mod Laws
+pub mod Rows
 pub mod Fits
 pub mod Computed

@@ -7,18 +7,19 @@ use native.Mathlib.Omega.{arith}
 use borrow.Author.Tests.{le-leb, leb-true}
 use lib.Dec.{leb}
 use lib.ListN.{length, set, length-append}
+use Rattle.wire.specs.Choose.{choose}
 use Rattle.wire.specs.Buffer.{put, overlay}
 use Rattle.wire.proofs.Cases.{yes, no, by-choice}
 use Rattle.wire.proofs.Buffers.{overlay-none, overlay-sets, overlay-set, overlay-put}
-use Rattle.card.specs.Numbers.{answered, bufferShort, cardUnfit}
+use Rattle.card.specs.Numbers.{answered, done, bufferShort, cardUnfit}
 use Rattle.card.specs.Layout.{Card, cardOf, withWords}
 use Rattle.card.specs.Fitness.{fit}
 use Rattle.card.specs.declared.Outcome.{Outcome}
-use Rattle.card.specs.Reply.{Reply, WordsReply, Answer, onWords, leaving, silent, shell, early, guarded, Keeps, Gave, GaveWords, Wrote, Told, Did}
+use Rattle.card.specs.Reply.{Reply, WordsReply, Answer, onWords, leaving, silent, doneWith, doneReply, shell, early, guarded, Keeps, Gave, GaveWords, Wrote, Told, Did}
 
 -- two cards are the same, table by table
-pub same-card : {a b : Card} → a .words ≡ b .words → a .memory ≡ b .memory → a .pending ≡ b .pending → a ≡ b
-same-card {a} {b} w m p = ap (λ (x : List ℕ). cardOf x (a .memory) (a .pending)) w ∙ ap₂ (λ (x y : List ℕ). cardOf (b .words) x y) m p
+pub same-card : {a b : Card} → a .words ≡ b .words → a .memory ≡ b .memory → a .ports ≡ b .ports → a ≡ b
+same-card {a} {b} w m p = ap (λ (x : List ℕ). cardOf x (a .memory) (a .ports)) w ∙ ap₂ (λ (x y : List ℕ). cardOf (b .words) x y) m p
 
 -- a number alone: nothing written, no table changed
 pub did-silent : (number : ℕ) (card : Card) → Did (silent number card) number card
@@ -26,6 +27,11 @@ did-silent number card = record { quiet = refl; numbered = refl; left = refl }
 
 pub gave-silent : (number : ℕ) (card : Card) (out : List ℕ) → Gave (silent number card) out (record { number = number; len = 0 }) card out
 gave-silent number card out = record { numbered = refl; measured = refl; written = sym (overlay-none out); left = refl }
+
+-- a done call of a new entry that hands over no bytes
+pub did-done-reply : {card card′ : Card} → card ≡ card′ → Did (doneReply [] card′) done card
+unfolding doneWith choose
+did-done-reply e = record { quiet = refl; numbered = refl; left = e }
 
 -- a reply known under another name
 pub did-as : {number : ℕ} {card′ : Card} (r q : Reply) → r ≡ q → Did r number card′ → Did q number card′

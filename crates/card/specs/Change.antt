@@ -50,12 +50,12 @@ numRight kind num = leb num dataMost && (not (eqb kind changeBits) || eqb (num %
 unfoldable pub echoable : ℕ → ℕ → ℕ → ℕ → Bool
 echoable kind num at n = leb kind changeBits && (numRight kind num && (inMemory at n && not (namesReadOnly at n)))
 
--- the address of a pending change, or of a frame: low byte, then high byte
-unfoldable pub addressOf : ℕ → ℕ → ℕ
-addressOf low high = low + byteValues * high
+-- a number of two bytes, the low one first, as an address is sent
+unfoldable pub twoBytes : ℕ → ℕ → ℕ
+twoBytes low high = low + byteValues * high
 
 -- the pending change is none, or as it was echoed
 unfoldable pub fitPending : List ℕ → Bool
 fitPending p =
     eqb (getD p kindAt 0) noChange
-    || echoable (getD p kindAt 0) (getD p numAt 0) (addressOf (getD p lowAddressAt 0) (getD p highAddressAt 0)) (named (getD p kindAt 0) (getD p numAt 0))
+    || echoable (getD p kindAt 0) (getD p numAt 0) (twoBytes (getD p lowAddressAt 0) (getD p highAddressAt 0)) (named (getD p kindAt 0) (getD p numAt 0))

@@ -7,7 +7,7 @@ use lib.Dec.{leb, ltb, eqb}
 use lib.ListN.{length}
 use Rattle.wire.specs.Choose.{choose}
 use Rattle.wire.specs.Word.{minus}
-use Rattle.card.specs.Layout.{Card, iaAt, lecomAddressAt, loveAddressAt, demandsAt, parametersAt, parametersEach, bufferAt, wordCount, memorySize, pendingSize}
+use Rattle.card.specs.Layout.{Card, iaAt, lecomAddressAt, loveAddressAt, demandsAt, parametersAt, parametersEach, bufferAt, wordCount, memorySize, rowSize}
 use Rattle.card.specs.Change.{fitPending}
 
 -- the word x lies from lo to hi; a lower end above the upper one is a negative number in two's complement
@@ -104,5 +104,5 @@ unfoldable pub fit : Card → Bool
 fit card =
     eqb (length (card .words)) wordCount
     && (eqb (length (card .memory)) memorySize
-    && (eqb (length (card .pending)) pendingSize
-    && (fitWords (card .words) && fitPending (card .pending))))
+    && (eqb (length (card .ports)) rowSize
+    && (fitWords (card .words) && fitPending (card .ports))))

@@ -8,21 +8,21 @@ pub record Card : Type 0 where
   pub words : List ℕ
   -- Datalink memory; "1000h to 1003h show the probe codes themselves": its first bytes are the codes, a channel each
   pub memory : List ℕ
-  -- the pending change
-  pub pending : List ℕ
+  -- the port's row: its pending change, and of each dialect the part frame that its receiver has collected
+  pub ports : List ℕ
 
 abbrev pub cardOf : List ℕ → List ℕ → List ℕ → Card
-cardOf words memory pending = record { words = words; memory = memory; pending = pending }
+cardOf words memory ports = record { words = words; memory = memory; ports = ports }
 
 -- the card with one table changed
 abbrev pub withWords : Card → List ℕ → Card
-withWords card words = cardOf words (card .memory) (card .pending)
+withWords card words = cardOf words (card .memory) (card .ports)
 
 abbrev pub withMemory : Card → List ℕ → Card
-withMemory card memory = cardOf (card .words) memory (card .pending)
+withMemory card memory = cardOf (card .words) memory (card .ports)
 
-abbrev pub withPending : Card → List ℕ → Card
-withPending card pending = cardOf (card .words) (card .memory) pending
+abbrev pub withPorts : Card → List ℕ → Card
+withPorts card ports = cardOf (card .words) (card .memory) ports
 
 -- the words: addresses
 abbrev pub iaAt : ℕ
@@ -102,3 +102,35 @@ dataMost = 32
 
 abbrev pub pendingSize : ℕ
 pendingSize = dataAt + dataMost
+
+-- Document 02, M-100, of each dialect the part frame: how many bytes it has, a number of two bytes, the low one first; then its bytes, as many as the
+-- dialect's longest frame has
+abbrev pub countSize : ℕ
+countSize = 2
+
+abbrev pub datalinkRoom : ℕ
+datalinkRoom = 38
+
+abbrev pub lecomRoom : ℕ
+lecomRoom = 25
+
+abbrev pub loveRoom : ℕ
+loveRoom = 32
+
+abbrev pub lucidRoom : ℕ
+lucidRoom = 259
+
+abbrev pub datalinkPartAt : ℕ
+datalinkPartAt = pendingSize
+
+abbrev pub lecomPartAt : ℕ
+lecomPartAt = datalinkPartAt + (countSize + datalinkRoom)
+
+abbrev pub lovePartAt : ℕ
+lovePartAt = lecomPartAt + (countSize + lecomRoom)
+
+abbrev pub lucidPartAt : ℕ
+lucidPartAt = lovePartAt + (countSize + loveRoom)
+
+abbrev pub rowSize : ℕ
+rowSize = lucidPartAt + (countSize + lucidRoom)

@@ -1,6 +1,7 @@
 pub mod Numbers
 pub mod Layout
 pub mod Change
+pub mod Row
 pub mod Fitness
 pub mod Scans
 pub mod Fit

@@ -60,3 +60,7 @@ imageLength = 13
 -- image padding not zero
 abbrev pub imagePadding : ℕ
 imagePadding = 14
+
+-- document 02, M-100: "Numbers above 14 join 01's table". A receiver's frame buffer below the dialect's longest
+abbrev pub frameBufferShort : ℕ
+frameBufferShort = 16

@@ -2,11 +2,11 @@
 use Prim.Native.Nat.{ℕ, _≤_}
 use mathlib.Core.Path.{_≡_}
 use mathlib.Core.List.{List, []}
-use lib.Dec.{leb}
+use lib.Dec.{leb, eqb}
 use lib.ListN.{length}
 use Rattle.wire.specs.Choose.{choose}
 use Rattle.wire.specs.Buffer.{overlay}
-use Rattle.card.specs.Numbers.{answered, foreignAddress, bufferShort, cardUnfit}
+use Rattle.card.specs.Numbers.{answered, done, foreignAddress, bufferShort, cardUnfit}
 use Rattle.card.specs.Layout.{Card, withWords}
 use Rattle.card.specs.declared.Outcome.{Outcome}
 use Rattle.card.specs.Fitness.{fit}
@@ -24,6 +24,14 @@ silent number card = record { number = number; bytes = []; card = card }
 -- a number with wire bytes
 abbrev pub sent : ℕ → List ℕ → Card → Reply
 sent number bytes card = record { number = number; bytes = bytes; card = card }
+
+-- document 02, M-100: "From here on a done call of a new entry gives 0 if it hands over bytes, else 1"
+unfoldable pub doneWith : ℕ → ℕ
+doneWith len = choose (eqb len 0) done answered
+
+-- a done call that hands over these bytes; [] is none
+abbrev pub doneReply : List ℕ → Card → Reply
+doneReply bytes card = sent (doneWith (length bytes)) bytes card
 
 -- the same number and the same wire bytes
 pub record SameAnswer (a b : Reply) : Type 0 where
@@ -65,7 +73,7 @@ early least card room = choose (fit card) (choose (leb least room) answered buff
 unfoldable pub guarded : Card → Reply → Reply
 guarded card reply = choose (fit card) reply (silent cardUnfit card)
 
--- "Numbers 2 to 14 change no table"; that "buffer bytes after an answer never change" is in `overlay`
+-- "Numbers 2 to 14 change no table"; document 02: "Numbers above 14 .. change no table"; that "buffer bytes after an answer never change" is in `overlay`
 pub record Keeps (card : Card) (reply : Reply) : Type 0 where
   pub kept : foreignAddress ≤ reply .number → reply .card ≡ card
 

@@ -3,7 +3,7 @@
 use Prim.Native.Nat.{ℕ, _+_, _-_}
 use mathlib.Core.List.{List, [], _∷_, _++_}
 use lib.ListN.{replicate}
-use Rattle.card.specs.Layout.{Card, cardOf, loveCount, channels, registers, memorySize, pendingSize}
+use Rattle.card.specs.Layout.{Card, cardOf, loveCount, channels, registers, memorySize, rowSize}
 use Rattle.card.specs.Fitness.{demandMost, cycleDefault, floorDefault}
 use Rattle.card.specs.Probe.{faultCode}
 
@@ -28,4 +28,4 @@ abbrev pub startMemory : List ℕ
 startMemory = replicate channels faultCode ++ replicate (memorySize - channels) 0
 
 abbrev pub startCard : Card
-startCard = cardOf startWords startMemory (replicate pendingSize 0)
+startCard = cardOf startWords startMemory (replicate rowSize 0)

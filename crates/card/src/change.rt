@@ -8,8 +8,8 @@ use crate::layout::NUM;
 use wire::BYTE_VALUES;
 ghost use mathlib.Core.Path.{_≡_};
 ghost use lib.ListN.{length};
-ghost use Rattle.card.specs.Layout.{pendingSize};
-ghost use Rattle.card.specs.Change.{inMemory, namesReadOnly, named, numRight, echoable, addressOf, fitPending};
+ghost use Rattle.card.specs.Layout.{rowSize};
+ghost use Rattle.card.specs.Change.{inMemory, namesReadOnly, named, numRight, echoable, twoBytes, fitPending};
 
 // Datalink addresses: the first, the one after the last, and the first writable one.
 pub const MEMORY_START: u32 = 0x1000;
@@ -78,23 +78,23 @@ fn is_echoable(kind: u8, num: u8, at: u16, n: u8) -> bool
     !names_read_only(at, n)
 }
 
-// An address from its two bytes.
-pub fn address(low: u8, high: u8) -> u16
-    ensures { λ r. ⌜ r ≡ addressOf low high ⌝ }
+// A number of two bytes, the low one first.
+pub fn two_bytes(low: u8, high: u8) -> u16
+    ensures { λ r. ⌜ r ≡ twoBytes low high ⌝ }
 {
     low as u16 + HIGH_WEIGHT * (high as u16)
 }
 
 // Whether the pending change is none, or as it was echoed.
-pub(crate) fn fit_pending(pending: &[u8]) -> bool
-    requires { ⌜ length (now pending) ≡ pendingSize ⌝ }
-    ensures { λ r. ⌜ r ≡ fitPending (now (pending .entry)) ⌝ }
+pub(crate) fn fit_pending(ports: &[u8]) -> bool
+    requires { ⌜ length (now ports) ≡ rowSize ⌝ }
+    ensures { λ r. ⌜ r ≡ fitPending (now (ports .entry)) ⌝ }
 {
-    let kind = pending[KIND];
+    let kind = ports[KIND];
     if kind == NO_CHANGE {
         return true;
     }
-    let num = pending[NUM];
-    let at = address(pending[LOW_ADDRESS], pending[HIGH_ADDRESS]);
+    let num = ports[NUM];
+    let at = two_bytes(ports[LOW_ADDRESS], ports[HIGH_ADDRESS]);
     is_echoable(kind, num, at, bytes_named(kind, num))
 }

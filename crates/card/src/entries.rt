@@ -16,20 +16,21 @@ use crate::numbers::CARD_UNFIT;
 use crate::numbers::DONE;
 use crate::numbers::RANGE_UNKNOWN;
 use crate::probe::FAULT_CODE;
+use crate::row::drop_parts;
 ghost use mathlib.Core.Path.{_≡_};
 ghost use lib.ListN.{length};
 ghost use Rattle.card.specs.Layout.{cardOf, wordCount, memorySize};
 ghost use Rattle.card.specs.Entries.{setCode, restart, fullDemands, restoredParameters, restoredRegisters, faulted};
 ghost use Rattle.card.specs.Reply.{Did};
 
-// Sets the code of a probe. Words and the pending change are lent for the test of fitness only.
-pub fn set_code(words: &[u32], memory: &mut [u8], pending: &[u8], channel: u32, code: u8) -> u8
+// Sets the code of a probe. Words and the port's row are lent for the test of fitness only.
+pub fn set_code(words: &[u32], memory: &mut [u8], ports: &[u8], channel: u32, code: u8) -> u8
     ensures { λ r.
-        let before = cardOf (now (words .entry)) (now (memory .entry)) (now (pending .entry)) in
-        let after = cardOf (now (words .entry)) (now (memory .exit)) (now (pending .entry)) in
+        let before = cardOf (now (words .entry)) (now (memory .entry)) (now (ports .entry)) in
+        let after = cardOf (now (words .entry)) (now (memory .exit)) (now (ports .entry)) in
         ⌜ Did (setCode before channel code) r after ⌝ }
 {
-    if !is_fit(words, memory, pending) {
+    if !is_fit(words, memory, ports) {
         return CARD_UNFIT;
     }
     if CHANNELS as u32 <= channel {
@@ -85,18 +86,19 @@ fn fault_probes(memory: &mut [u8])
 }
 
 // Restart, as the card does it when its supply comes back.
-pub fn restart_card(words: &mut [u32], memory: &mut [u8], pending: &mut [u8]) -> u8
+pub fn restart_card(words: &mut [u32], memory: &mut [u8], ports: &mut [u8]) -> u8
     ensures { λ r.
-        let before = cardOf (now (words .entry)) (now (memory .entry)) (now (pending .entry)) in
-        let after = cardOf (now (words .exit)) (now (memory .exit)) (now (pending .exit)) in
+        let before = cardOf (now (words .entry)) (now (memory .entry)) (now (ports .entry)) in
+        let after = cardOf (now (words .exit)) (now (memory .exit)) (now (ports .exit)) in
         ⌜ Did (restart before) r after ⌝ }
 {
-    if !is_fit(words, memory, pending) {
+    if !is_fit(words, memory, ports) {
         return CARD_UNFIT;
     }
     restore(words);
     fill_demands(words);
     fault_probes(memory);
-    pending[KIND] = NO_CHANGE;
+    drop_parts(ports);
+    ports[KIND] = NO_CHANGE;
     DONE
 }

@@ -9,8 +9,8 @@ use crate::layout::LOVE_ADDRESS;
 use crate::layout::MEMORY;
 use crate::layout::PARAMETERS;
 use crate::layout::PARAMETERS_EACH;
-use crate::layout::PENDING;
 use crate::layout::REGISTERS;
+use crate::layout::ROW;
 use crate::layout::WORDS;
 use std::num::wrapping_add_u32;
 use std::num::wrapping_sub_u32;
@@ -194,8 +194,8 @@ fn fit_words(words: &[u32]) -> bool
 }
 
 // The one test of number 12, which every entry makes first.
-pub fn is_fit(words: &[u32], memory: &[u8], pending: &[u8]) -> bool
-    ensures { λ r. ⌜ r ≡ fit (cardOf (now (words .entry)) (now (memory .entry)) (now (pending .entry))) ⌝ }
+pub fn is_fit(words: &[u32], memory: &[u8], ports: &[u8]) -> bool
+    ensures { λ r. ⌜ r ≡ fit (cardOf (now (words .entry)) (now (memory .entry)) (now (ports .entry))) ⌝ }
 {
     if words.len() != WORDS {
         return false;
@@ -203,10 +203,10 @@ pub fn is_fit(words: &[u32], memory: &[u8], pending: &[u8]) -> bool
     if memory.len() != MEMORY {
         return false;
     }
-    if pending.len() != PENDING {
+    if ports.len() != ROW {
         return false;
     }
-    if !fit_pending(pending) {
+    if !fit_pending(ports) {
         return false;
     }
     fit_words(words)

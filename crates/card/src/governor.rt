@@ -36,13 +36,13 @@ fn told(code: u8) -> Governor
 }
 
 // What the governor is told of a channel.
-pub fn governor_reading(words: &[u32], memory: &[u8], pending: &[u8], channel: u32) -> Governor
+pub fn governor_reading(words: &[u32], memory: &[u8], ports: &[u8], channel: u32) -> Governor
     ensures { λ r.
-        let before = cardOf (now (words .entry)) (now (memory .entry)) (now (pending .entry)) in
-        let after = cardOf (now (words .entry)) (now (memory .entry)) (now (pending .entry)) in
+        let before = cardOf (now (words .entry)) (now (memory .entry)) (now (ports .entry)) in
+        let after = cardOf (now (words .entry)) (now (memory .entry)) (now (ports .entry)) in
         ⌜ GovernorTold before channel r after ⌝ }
 {
-    if !is_fit(words, memory, pending) {
+    if !is_fit(words, memory, ports) {
         return Governor::Refused(CARD_UNFIT);
     }
     if CHANNELS as u32 <= channel {

@@ -36,7 +36,7 @@ pub const WORDS: usize = SAVED_REGISTERS + REGISTERS;
 // Datalink memory; its first bytes are the probe codes, a channel each.
 pub const MEMORY: usize = 4096;
 
-// The pending change: its kind, then NUM, low address, high address and data as in its frame.
+// The port's row. Its pending change: its kind, then NUM, low address, high address and data as in its frame.
 pub const KIND: usize = 0;
 
 pub const NUM: usize = 1;
@@ -50,3 +50,25 @@ pub const DATA: usize = 4;
 pub const DATA_MOST: usize = 32;
 
 pub const PENDING: usize = DATA + DATA_MOST;
+
+// Of each dialect the part frame: how many bytes it has, a number of two bytes, the low one first; then its bytes, as many as the dialect's
+// longest frame has.
+pub const COUNT: usize = 2;
+
+pub const DATALINK_ROOM: usize = 38;
+
+pub const LECOM_ROOM: usize = 25;
+
+pub const LOVE_ROOM: usize = 32;
+
+pub const LUCID_ROOM: usize = 259;
+
+pub const DATALINK_PART: usize = PENDING;
+
+pub const LECOM_PART: usize = DATALINK_PART + COUNT + DATALINK_ROOM;
+
+pub const LOVE_PART: usize = LECOM_PART + COUNT + LECOM_ROOM;
+
+pub const LUCID_PART: usize = LOVE_PART + COUNT + LOVE_ROOM;
+
+pub const ROW: usize = LUCID_PART + COUNT + LUCID_ROOM;

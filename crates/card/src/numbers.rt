@@ -28,3 +28,6 @@ pub const CARD_UNFIT: u8 = 12;
 pub const IMAGE_LENGTH: u8 = 13;
 
 pub const IMAGE_PADDING: u8 = 14;
+
+// Document 02.
+pub const FRAME_BUFFER_SHORT: u8 = 16;

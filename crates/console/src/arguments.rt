@@ -27,12 +27,12 @@ pub struct Arguments {
     pub count: usize,
 }
 
-// ROOM BYTES
-pub fn room_and_bytes(s: &[u8], to: &mut [u8; BYTES_MOST]) -> Arguments
-    requires { ⌜ length (now s) ≤ lineMost ⌝ }
+// ROOM BYTES, from at on.
+pub fn room_and_bytes(s: &[u8], at: usize, to: &mut [u8; BYTES_MOST]) -> Arguments
+    requires { ⌜ (at ≤ length (now s)) × (length (now s) ≤ lineMost) ⌝ }
     ensures { λ r. ⌜ (r .room ≤ roomMost) × (r .count ≤ length (now (to .exit))) ⌝ }
 {
-    let room = line::read_number(s, 0, ROOM_MOST as u32);
+    let room = line::read_number(s, at, ROOM_MOST as u32);
     let bytes = line::read_bytes(s, room.next, to);
     Arguments {
         right: room.right & (bytes.next == s.len()),

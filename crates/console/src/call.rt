@@ -1,16 +1,11 @@
 // The calls: the lines that ask for them, and the call that a line's first word names. docs/CONSOLE.md.
 use lines::line;
+use receive::Dialect;
+use tables::dialect;
 
 // The lines of the calls, as `help` writes them. A line that cannot be read is answered with those of its first word.
-pub const CALLS: [u8; 274] =
-    *b"probe CHANNEL CODE; restart; governor CHANNEL; datalink ROOM BYTES; lecom ROOM BYTES; love ROOM BYTES; lucid ROOM BYTES; save ROOM; load BYTES; request change IA ADDRESS BYTES; request bits IA ADDRESS MASKS / STATES; step ROOM BYTES; poke TABLE PLACE VALUE; peek TABLE; help";
-
-pub enum Dialect {
-    Datalink,
-    Lecom,
-    Love,
-    Lucid,
-}
+pub const CALLS: [u8; 317] =
+    *b"probe CHANNEL CODE; restart; governor CHANNEL; datalink ROOM BYTES; lecom ROOM BYTES; love ROOM BYTES; lucid ROOM BYTES; receive DIALECT ROOM BYTES; quiet DIALECT; save ROOM; load BYTES; request change IA ADDRESS BYTES; request bits IA ADDRESS MASKS / STATES; step ROOM BYTES; poke TABLE PLACE VALUE; peek TABLE; help";
 
 // A call of an entry of the card: card_calls.rt.
 pub enum CardCall {
@@ -18,6 +13,12 @@ pub enum CardCall {
     Restart,
     Governor,
     Frame(Dialect),
+}
+
+// A call of the receivers' entries: receiver_calls.rt.
+pub enum ReceiverCall {
+    Receive,
+    Quiet,
 }
 
 // A call of the image's entries: image_calls.rt.
@@ -44,6 +45,7 @@ pub enum Call {
     TooLong,
     Unknown,
     Card(CardCall),
+    Receiver(ReceiverCall),
     Image(ImageCall),
     Exchange(ExchangeCall),
     Tables(TableCall),
@@ -86,21 +88,25 @@ fn image_call(name: &[u8]) -> Call {
     exchange_call(name)
 }
 
-// A frame in a dialect.
-fn frame_call(name: &[u8]) -> Call {
-    if line::is_word(name, b"datalink") {
-        return Call::Card(CardCall::Frame(Dialect::Datalink));
+// The calls of the receivers' entries.
+fn receiver_call(name: &[u8]) -> Call {
+    if line::is_word(name, b"receive") {
+        return Call::Receiver(ReceiverCall::Receive);
     }
-    if line::is_word(name, b"lecom") {
-        return Call::Card(CardCall::Frame(Dialect::Lecom));
-    }
-    if line::is_word(name, b"love") {
-        return Call::Card(CardCall::Frame(Dialect::Love));
-    }
-    if line::is_word(name, b"lucid") {
-        return Call::Card(CardCall::Frame(Dialect::Lucid));
+    if line::is_word(name, b"quiet") {
+        return Call::Receiver(ReceiverCall::Quiet);
     }
     image_call(name)
+}
+
+// A frame in a dialect: the dialect's name is the call's.
+fn frame_call(name: &[u8]) -> Call {
+    let spoken = dialect::read_dialect(name, 0);
+    if spoken.right {
+        let dialect = spoken.dialect;
+        return Call::Card(CardCall::Frame(dialect));
+    }
+    receiver_call(name)
 }
 
 // The call of a name: those of the card here, the others group by group.

@@ -265,7 +265,7 @@ fn step(
     requires { ⌜ (length (now s) ≤ lineMost) × Held (e .sent) (e .states) ⌝ }
     ensures { λ r. ⌜ Answered (r .len) (r .exchange .sent) (r .exchange .states) ⌝ }
 {
-    let a = arguments::room_and_bytes(s, f);
+    let a = arguments::room_and_bytes(s, 0, f);
     if !a.right {
         return Answer {
             len: UNREAD,

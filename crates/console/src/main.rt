@@ -7,12 +7,13 @@ mod image_calls;
 mod input;
 mod output;
 mod question;
+mod receiver_calls;
 mod reply;
 mod start;
 mod table_calls;
 
 use card::layout::MEMORY;
-use card::layout::PENDING;
+use card::layout::ROW;
 use card::layout::WORDS;
 use input::READ_MOST;
 use libc::STDERR_FILENO;
@@ -52,7 +53,7 @@ fn report(going: Going) -> bool {
 fn main() {
     let mut words = [0u32; WORDS];
     let mut memory = [0u8; MEMORY];
-    let mut pending = [0u8; PENDING];
+    let mut ports = [0u8; ROW];
     let mut sent = [0u8; BYTES_MOST];
     let mut states = [0u8; BYTES_MOST];
     let mut buffer = [0u8; READ_MOST];
@@ -74,7 +75,7 @@ fn main() {
         state = reply::go_on(
             &mut words,
             &mut memory,
-            &mut pending,
+            &mut ports,
             &mut sent,
             &mut states,
             &mut buffer,

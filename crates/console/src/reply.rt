@@ -13,9 +13,10 @@ use crate::output;
 use crate::output::HELD_MOST;
 use crate::question;
 use crate::question::Question;
+use crate::receiver_calls;
 use crate::table_calls;
 use card::layout::MEMORY;
-use card::layout::PENDING;
+use card::layout::ROW;
 use card::layout::WORDS;
 use lines::ANSWER_MOST;
 use lines::BYTES_MOST;
@@ -49,7 +50,7 @@ pub struct State {
 
 // help
 fn help(s: &[u8], out: &mut [u8; ANSWER_MOST]) -> usize
-    ensures { λ r. ⌜ r < answerMost ⌝ }
+    ensures { λ r. ⌜ r ≤ answerMost ⌝ }
 {
     if 0 < s.len() {
         return UNREAD;
@@ -63,19 +64,20 @@ fn run_here(
     call: Call,
     words: &mut [u32; WORDS],
     memory: &mut [u8; MEMORY],
-    pending: &mut [u8; PENDING],
+    ports: &mut [u8; ROW],
     s: &[u8],
     f: &mut [u8; BYTES_MOST],
     g: &mut [u8; BYTES_MOST],
     out: &mut [u8; ANSWER_MOST],
 ) -> usize
     requires { ⌜ length (now s) ≤ lineMost ⌝ }
-    ensures { λ r. ⌜ r < answerMost ⌝ }
+    ensures { λ r. ⌜ r ≤ answerMost ⌝ }
 {
     match call {
-        Call::Card(asked) => card_calls::run(asked, words, memory, pending, s, f, g, out),
-        Call::Image(asked) => image_calls::run(asked, words, memory, pending, s, f, g, out),
-        Call::Tables(asked) => table_calls::run(asked, words, memory, pending, s, out),
+        Call::Card(asked) => card_calls::run(asked, words, memory, ports, s, f, g, out),
+        Call::Receiver(asked) => receiver_calls::run(asked, words, memory, ports, s, f, g, out),
+        Call::Image(asked) => image_calls::run(asked, words, memory, ports, s, f, g, out),
+        Call::Tables(asked) => table_calls::run(asked, words, memory, ports, s, out),
         Call::Help => help(s, out),
         _ => UNREAD,
     }
@@ -86,7 +88,7 @@ fn run(
     call: Call,
     words: &mut [u32; WORDS],
     memory: &mut [u8; MEMORY],
-    pending: &mut [u8; PENDING],
+    ports: &mut [u8; ROW],
     sent: &mut [u8; BYTES_MOST],
     states: &mut [u8; BYTES_MOST],
     e: Exchange,
@@ -101,7 +103,7 @@ fn run(
     if let Call::Exchange(asked) = call {
         return exchange::run(asked, e, s, sent, states, f, g, out);
     }
-    let len = run_here(call, words, memory, pending, s, f, g, out);
+    let len = run_here(call, words, memory, ports, s, f, g, out);
     Answer { len, exchange: e }
 }
 
@@ -126,7 +128,7 @@ fn say(
     len: usize,
     out: &mut [u8; ANSWER_MOST],
 ) -> usize
-    requires { ⌜ (from ≤ stop) × ((stop ≤ length (now line)) × (len < answerMost)) ⌝ }
+    requires { ⌜ (from ≤ stop) × ((stop ≤ length (now line)) × (len ≤ answerMost)) ⌝ }
     ensures { λ r. ⌜ r < answerMost ⌝ }
 {
     if len != UNREAD {
@@ -144,7 +146,7 @@ fn tell(
     held: &mut [u8; HELD_MOST],
     n: usize,
 ) -> usize
-    requires { ⌜ Parted (question .from) (question .stop) (question .next) (question .end) (length (now line)) × ((len < answerMost) × (n ≤ answerMost)) ⌝ }
+    requires { ⌜ Parted (question .from) (question .stop) (question .next) (question .end) (length (now line)) × ((len ≤ answerMost) × (n ≤ answerMost)) ⌝ }
     ensures { λ r. ⌜ Longer n (now (held .entry)) r (now (held .exit)) ⌝ }
 {
     let call = question.call;
@@ -173,7 +175,7 @@ fn goes_on(over: bool, failed: bool, written: bool) -> Going {
 pub fn go_on(
     words: &mut [u32; WORDS],
     memory: &mut [u8; MEMORY],
-    pending: &mut [u8; PENDING],
+    ports: &mut [u8; ROW],
     sent: &mut [u8; BYTES_MOST],
     states: &mut [u8; BYTES_MOST],
     buffer: &mut [u8; READ_MOST],
@@ -199,7 +201,7 @@ pub fn go_on(
         call,
         words,
         memory,
-        pending,
+        ports,
         sent,
         states,
         e,

@@ -54,15 +54,15 @@ obeyed-fit card f (Interrogate at n) s e = e
 obeyed-fit card f (Change kind num) s e =
     let t = fit-facts card e in
     let l : frameDataAt + num ≤ length f = omega (arith, s .0) in
-    let body = length-body f kind num (card .pending) l in
+    let body = length-body f kind num (card .ports) l in
     fit-from _ (t .words-length) (t .memory-length)
-    (length-overlay (kind ∷ bodyOf f num) (card .pending) (omega (arith, body, s .1 .0, t .pending-length)) ∙ t .pending-length)
-    (t .words-fit) (pended-fit f kind num (card .pending) l (s .1 .1 .0) (s .1 .1 .1))
+    (length-overlay (kind ∷ bodyOf f num) (card .ports) (omega (arith, body, s .1 .0, t .ports-length)) ∙ t .ports-length)
+    (t .words-fit) (pended-fit f kind num (card .ports) l (s .1 .1 .0) (s .1 .1 .1))
 obeyed-fit card f Acknowledge s e =
     let t = fit-facts card e in
-    by-choice IsFit (eqb (getD (card .pending) kindAt 0) noChange) _ _ (λ _. e)
+    by-choice IsFit (eqb (getD (card .ports) kindAt 0) noChange) _ _ (λ _. e)
     (λ _. fit-from (applied card) (t .words-length) (length-changed _ _ _ _ (card .memory) ∙ t .memory-length)
-    (length-dropped (card .pending) ∙ t .pending-length) (t .words-fit) (dropped-fit (card .pending)))
+    (length-dropped (card .ports) ∙ t .ports-length) (t .words-fit) (dropped-fit (card .ports)))
 
 pub stays-fit : (card : Card) (room : ℕ) (f : List ℕ) → fit card ≡ true → IsFit (datalinkReply card room f)
 unfolding datalinkReply

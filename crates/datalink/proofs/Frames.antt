@@ -13,7 +13,7 @@ use Rattle.wire.proofs.Tests.{and-true}
 use Rattle.wire.proofs.Cases.{by-choice}
 use Rattle.card.specs.Numbers.{foreignAddress, frameForm, checkCharacter, commandUnknown, rangeUnknown, readOnly}
 use Rattle.card.specs.Layout.{kindAt, numAt, lowAddressAt, highAddressAt, dataMost}
-use Rattle.card.specs.Change.{noChange, change, changeBits, named, numRight, inMemory, namesReadOnly, addressOf, echoable, fitPending, memoryStart, memoryEnd}
+use Rattle.card.specs.Change.{noChange, change, changeBits, named, numRight, inMemory, namesReadOnly, twoBytes, echoable, fitPending, memoryStart, memoryEnd}
 use Rattle.datalink.specs.Form.{bareSize, acknowledgeBits, changeCommandBits, changeBitsBits}
 use Rattle.datalink.specs.Frame.{commandIn, numIn, addressIn, isAcknowledge, kindOf, kindIn, namedIn, carried, formRight, rangeRight, changeAllowed, changeRight, ordered, silently, asked}
 use Rattle.datalink.specs.Stages.{orderIn, orderAt, Sound}
@@ -73,12 +73,12 @@ pub record Named (kind num at : ℕ) : Type 0 where
 
 -- so does the pending change of a fit card, where there is one
 pub pending-named : (p : List ℕ) → fitPending p ≡ true → (getD p kindAt 0 ≡ noChange → ⊥)
-    → Named (getD p kindAt 0) (getD p numAt 0) (addressOf (getD p lowAddressAt 0) (getD p highAddressAt 0))
+    → Named (getD p kindAt 0) (getD p numAt 0) (twoBytes (getD p lowAddressAt 0) (getD p highAddressAt 0))
 unfolding fitPending echoable
 pending-named p e none =
     let kind = getD p kindAt 0 in
     let num = getD p numAt 0 in
-    let at = addressOf (getD p lowAddressAt 0) (getD p highAddressAt 0) in
+    let at = twoBytes (getD p lowAddressAt 0) (getD p highAddressAt 0) in
     let a = and-true (leb kind changeBits) _ (rw (ne-eqb kind noChange none) at e) in
     let b = and-true (numRight kind num) _ (a .1) in
     let m = memory-facts at (named kind num) (and-true (inMemory at (named kind num)) _ (b .1) .0) in

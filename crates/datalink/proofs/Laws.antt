@@ -22,7 +22,7 @@ obeyed-keeps card f (Silent number) = keeps-silent number card
 obeyed-keeps card f (Interrogate at n) = record { kept = λ h. refl }
 obeyed-keeps card f (Change kind num) = record { kept = λ h. let z : ⊥ = omega arith in absurd z }
 obeyed-keeps card f Acknowledge =
-    by-choice (Keeps card) (eqb (getD (card .pending) kindAt 0) noChange) _ _ (λ _. keeps-silent nothingPending card)
+    by-choice (Keeps card) (eqb (getD (card .ports) kindAt 0) noChange) _ _ (λ _. keeps-silent nothingPending card)
     (λ _. record { kept = λ h. let z : ⊥ = omega arith in absurd z })
 
 pub keeps : (card : Card) (room : ℕ) (f : List ℕ) → Keeps card (datalinkReply card room f)

@@ -100,7 +100,7 @@ module _ (card : Card) (k code : ℕ) where
   order-other f (Interrogate at n) s other =
       record { number = refl; bytes = ap (λ (b : List ℕ). response (iaOf card) (part f frameNumAt frameDataAt ++ b)) (shown-other at n (s .1 .0) (other at n refl)) }
   order-other f (Change kind num) s other = record { number = refl; bytes = refl }
-  order-other f Acknowledge s other = by (eqb (getD (card .pending) kindAt 0) noChange)
+  order-other f Acknowledge s other = by (eqb (getD (card .ports) kindAt 0) noChange)
     where
       by : (t : Bool) → SameAnswer (choose t (silent nothingPending card) (silent done (applied card))) (choose t (silent nothingPending (withCode card k code)) (silent done (applied (withCode card k code))))
       by true = record { number = refl; bytes = refl }

@@ -1,30 +1,32 @@
 -- Datalink's receiver: which part frames it can hold, and that it hands over every frame of its form. Assumes nothing.
 use mathlib.Core.Path.{_≡_, refl, sym, ap, _∙_, subst}
-use mathlib.Core.Bool.{Bool, true, false, _&&_, _||_}
-use mathlib.Core.List.{List, [], _∷_, _++_}
+use mathlib.Core.Bool.{Bool, true, false, _&&_, _||_, not}
+use mathlib.Core.List.{List, [], _∷_, _++_, append-nil}
 use mathlib.Core.Logic._⊎_.{inl}
 use Prim.{tt}
 use Prim.Native.Nat.{ℕ, _+_, _≤_, _<_}
 use native.Mathlib.Omega.{arith}
-use borrow.Author.Tests.{leb-true, leb-false, ltb-true, eqb-true, lt-ltb, le-leb, lt-leb, ne-eqb}
+use borrow.Author.Tests.{leb-true, leb-false, ltb-true, eqb-true, lt-ltb, le-ltb, le-leb, lt-leb, eq-eqb, ne-eqb}
 use lib.Dec.{leb, ltb, eqb}
 use lib.ListN.{length, getD, length-append, List·getD-append}
 use lib.Seq.{append-snoc}
 use Rattle.wire.specs.Choose.{choose}
 use Rattle.wire.proofs.Cases.{by-choice, passed}
-use Rattle.wire.proofs.Tests.{and-true}
+use Rattle.wire.proofs.Tests.{and-true, and-false-right}
 use Rattle.wire.proofs.Lengths.{between-facts}
 use Rattle.receiver.specs.Step.Fate.{Kept, Dropped, Finished}
 use Rattle.receiver.specs.Line.{Reachable, Whole}
+use Rattle.receiver.specs.Place.{Placed, Sure}
+use Rattle.receiver.specs.declared.Place.the-variants.{Behind, Nowhere, Last}
 use Rattle.receiver.proofs.Reach.{whole, snoc}
 use Rattle.receiver.proofs.Origin.{Sound, held-reachable, reachable-held}
 use Rattle.card.specs.Layout.{dataMost}
-use Rattle.card.specs.Change.{numRight}
+use Rattle.card.specs.Change.{noChange, numRight}
 use Rattle.card.specs.Numbers.{foreignAddress, frameForm, commandUnknown}
-use Rattle.datalink.specs.Form.{shortest, longest, start, secondAt, frameNumAt, acknowledgeSize, bareSize}
-use Rattle.datalink.specs.Frame.{commandIn, commandKnown, isAcknowledge, kindIn, numIn, carried, formRight, silently, asked}
+use Rattle.datalink.specs.Form.{shortest, longest, start, secondAt, frameNumAt, acknowledgeBits, acknowledgeSize, bareSize}
+use Rattle.datalink.specs.Frame.{commandIn, commandKnown, isAcknowledge, kindOf, kindIn, numIn, carried, formRight, asked}
+use Rattle.datalink.specs.Stages.{commandOf, sizeOf, secondPlace, goesOn, heldWithNum}
 use Rattle.datalink.specs.Receiver.{onceCome, startsRight, wanted, judged, step, held}
-use Rattle.datalink.specs.declared.frame.Order.{Order}
 use Rattle.datalink.specs.declared.frame.Order.the-variants.{Silent}
 use Rattle.datalink.proofs.Frames.{num-most}
 
@@ -105,7 +107,7 @@ ends : (f : List ℕ) → startsRight f ≡ true → wanted f ≤ length f → j
 unfolding judged choose
 ends f h l = rw (h, le-leb (wanted f) (length f) l)
 
-sound : (part : List ℕ) (b : ℕ) → Sound step part b (step part b)
+pub sound : (part : List ℕ) (b : ℕ) → Sound step part b (step part b)
 unfolding step judged
 sound part b =
     let f = part ++ (b ∷ []) in
@@ -131,7 +133,7 @@ held-by f h l = go (eqb (length f) 0)
 some : (p : List ℕ) (b : ℕ) (xs : List ℕ) → 0 < length (p ++ (b ∷ xs))
 some p b xs = simp length-append (omega arith)
 
-kept : (p : List ℕ) (b : ℕ) (xs : List ℕ) → held (p ++ (b ∷ xs)) ≡ true → step p b ≡ Kept (p ++ (b ∷ []))
+pub kept : (p : List ℕ) (b : ℕ) (xs : List ℕ) → held (p ++ (b ∷ xs)) ≡ true → step p b ≡ Kept (p ++ (b ∷ []))
 unfolding step
 kept p b xs h =
     let u = p ++ (b ∷ []) in
@@ -140,9 +142,9 @@ kept p b xs h =
     let l : length u < wanted (u ++ xs) = omega (arith, longer u xs, k .1) in
     keeps u (starts-front u xs (some p b []) (k .0)) (wanted-front u xs l)
 
-on : (p : List ℕ) (b : ℕ) (q : List ℕ) → held p ≡ true → step p b ≡ Kept q → held q ≡ true
+pub stays-held : (p : List ℕ) (b : ℕ) (q : List ℕ) → held p ≡ true → step p b ≡ Kept q → held q ≡ true
 unfolding step judged choose
-on p b q _ e = go (startsRight f) (leb (wanted f) (length f)) refl refl e
+stays-held p b q _ e = go (startsRight f) (leb (wanted f) (length f)) refl refl e
   where
     f : List ℕ
     f = p ++ (b ∷ [])
@@ -155,11 +157,11 @@ on p b q _ e = go (startsRight f) (leb (wanted f) (length f)) refl refl e
 -- the part frames that are reachable are those that the test takes
 pub held-leads : (part : List ℕ) → held part ≡ true → Reachable step part
 unfolding held
-held-leads = held-reachable step sound held refl kept on
+held-leads = held-reachable step sound held refl kept stays-held
 
 pub leads-held : (part : List ℕ) → Reachable step part → held part ≡ true
 unfolding held
-leads-held = reachable-held step sound held refl kept on
+leads-held = reachable-held step sound held refl kept stays-held
 
 -- a frame of its form
 come-by : (place : ℕ) (f : List ℕ) (t : Bool) → (place < length f → t ≡ true) → onceCome place f t ≡ true
@@ -240,3 +242,187 @@ wanted-most f h =
 pub room : (part : List ℕ) → held part ≡ true → length part < longest
 room [] h = omega arith
 room (x ∷ part) h = let k = held-facts (x ∷ part) (omega arith) h in omega (arith, k .1, wanted-most (x ∷ part) (k .0))
+
+-- where a byte goes, by how many bytes were collected
+pub first-goes : (p : List ℕ) (b : ℕ) → length p + 1 < shortest → b ≡ start → Placed step longest p b Behind
+unfolding step judged startsRight onceCome wanted choose
+first-goes [] b n e = record { fate = rw (eq-eqb b start e); room = omega arith }
+first-goes (x ∷ p) b n e = let z : ⊥ = omega arith in absurd z
+
+pub first-drops : (p : List ℕ) (b : ℕ) → length p + 1 < shortest → (b ≡ start → ⊥) → Placed step longest p b Nowhere
+unfolding step judged startsRight onceCome wanted choose
+first-drops [] b n e = record { fate = rw (ne-eqb b start e); room = tt }
+first-drops (x ∷ p) b n e = let z : ⊥ = omega arith in absurd z
+
+-- what has come of a part frame with a second byte
+record Come (x y : ℕ) : Type 0 where
+  starts : eqb x start ≡ true
+  known : commandKnown (commandOf y) ≡ true
+  goes : eqb (commandOf y) acknowledgeBits ≡ false
+
+come : (x y : ℕ) (p : List ℕ) → held (x ∷ y ∷ p) ≡ true → Come x y
+unfolding startsRight onceCome wanted commandIn isAcknowledge commandOf choose
+come x y p h =
+    let k = held-facts (x ∷ y ∷ p) (omega arith) h in
+    let a = and-true (eqb x start) _ (k .0) in
+    let l = lt-leb (length (x ∷ y ∷ p)) secondAt (omega arith) in
+    let b = and-true (commandKnown (commandOf y)) _ (rw l at (a .1)) in
+    record { starts = a .0; known = b .0; goes = go (eqb (commandOf y) acknowledgeBits) refl (k .1) }
+  where
+    go : (t : Bool) → eqb (commandOf y) acknowledgeBits ≡ t → length (x ∷ y ∷ p) < wanted (x ∷ y ∷ p) → t ≡ false
+    go true e l = let z : length (x ∷ y ∷ p) < acknowledgeSize = rw (e, lt-leb (length (x ∷ y ∷ p)) secondAt (omega arith)) at l in let w : ⊥ = omega arith in absurd w
+    go false e l = refl
+
+pub second-goes : (p : List ℕ) (b : ℕ) → length p ≡ secondAt → held p ≡ true → Placed step longest p b (secondPlace b)
+unfolding step judged startsRight onceCome wanted commandIn isAcknowledge commandOf secondPlace choose
+second-goes [] b n h = let z : ⊥ = omega arith in absurd z
+second-goes (x ∷ []) b n h = go (commandKnown (commandOf b)) (eqb (commandOf b) acknowledgeBits) refl refl
+  where
+    starts : eqb x start ≡ true
+    starts = and-true (eqb x start) _ (held-facts (x ∷ []) (omega arith) h .0) .0
+
+    go : (s t : Bool) → commandKnown (commandOf b) ≡ s → eqb (commandOf b) acknowledgeBits ≡ t → Placed step longest (x ∷ []) b (choose s (choose t Last Behind) Nowhere)
+    go true true e g = record { fate = rw (starts, e, g); room = omega arith }
+    go true false e g = record { fate = rw (starts, e, g); room = omega arith }
+    go false t e g = record { fate = rw (starts, e); room = tt }
+second-goes (x ∷ y ∷ p) b n h = let z : ⊥ = omega arith in absurd z
+
+pub num-goes : (p : List ℕ) (b : ℕ) → length p ≡ frameNumAt → held p ≡ true → b ≤ dataMost → Placed step longest p b Behind
+unfolding step judged startsRight onceCome wanted commandIn isAcknowledge commandOf kindIn numIn choose
+num-goes [] b n h l = let z : ⊥ = omega arith in absurd z
+num-goes (x ∷ []) b n h l = let z : ⊥ = omega arith in absurd z
+num-goes (x ∷ y ∷ []) b n h l =
+    let k = come x y [] h in
+    record { fate = rw (k .starts, k .known, k .goes, le-leb b dataMost l, lt-leb (bareSize + carried (kindOf (commandOf y)) b) 3 (omega arith)); room = omega arith }
+num-goes (x ∷ y ∷ z ∷ p) b n h l = let z : ⊥ = omega arith in absurd z
+
+pub num-drops : (p : List ℕ) (b : ℕ) → length p ≡ frameNumAt → held p ≡ true → dataMost < b → Placed step longest p b Nowhere
+unfolding step judged startsRight onceCome wanted commandIn isAcknowledge commandOf kindIn numIn choose
+num-drops [] b n h l = let z : ⊥ = omega arith in absurd z
+num-drops (x ∷ []) b n h l = let z : ⊥ = omega arith in absurd z
+num-drops (x ∷ y ∷ []) b n h l =
+    let k = come x y [] h in
+    record { fate = rw (k .starts, k .known, lt-leb b dataMost l); room = tt }
+num-drops (x ∷ y ∷ z ∷ p) b n h l = let z : ⊥ = omega arith in absurd z
+
+-- behind NUM the frame's size decides
+behind-num : (x y z : ℕ) (p : List ℕ) (b : ℕ) → held (x ∷ y ∷ z ∷ p) ≡ true
+    → step (x ∷ y ∷ z ∷ p) b ≡ choose (leb (sizeOf y z) (length (x ∷ y ∷ z ∷ p) + 1)) (Finished ((x ∷ y ∷ z ∷ p) ++ (b ∷ []))) (Kept ((x ∷ y ∷ z ∷ p) ++ (b ∷ [])))
+unfolding step judged startsRight onceCome wanted commandIn isAcknowledge commandOf kindIn numIn sizeOf choose
+behind-num x y z p b h =
+    let k = come x y (z ∷ p) h in
+    let s = held-facts (x ∷ y ∷ z ∷ p) (omega arith) h in
+    let a = and-true (eqb x start) _ (s .0) in
+    let one = lt-leb (length (x ∷ y ∷ z ∷ p)) secondAt (omega arith) in
+    let two = lt-leb (length (x ∷ y ∷ z ∷ p)) frameNumAt (omega arith) in
+    let n : leb z dataMost ≡ true = and-true (commandKnown (commandOf y)) _ (rw (one, two) at (a .1)) .1 in
+    let l : length ((x ∷ y ∷ z ∷ p) ++ (b ∷ [])) ≡ length (x ∷ y ∷ z ∷ p) + 1 = length-append (x ∷ y ∷ z ∷ p) (b ∷ []) in
+    rw (lt-leb (length ((x ∷ y ∷ z ∷ p) ++ (b ∷ []))) secondAt (omega arith), lt-leb (length ((x ∷ y ∷ z ∷ p) ++ (b ∷ []))) frameNumAt (omega arith), l, k .starts, k .known, k .goes, n)
+
+pub later-ends : (p : List ℕ) (b : ℕ) → frameNumAt < length p → held p ≡ true → sizeOf (getD p secondAt 0) (getD p frameNumAt 0) ≤ length p + 1 → Placed step longest p b Last
+unfolding choose
+later-ends [] b n h l = let z : ⊥ = omega arith in absurd z
+later-ends (x ∷ []) b n h l = let z : ⊥ = omega arith in absurd z
+later-ends (x ∷ y ∷ []) b n h l = let z : ⊥ = omega arith in absurd z
+later-ends (x ∷ y ∷ z ∷ p) b n h l = record { fate = behind-num x y z p b h ∙ rw (le-leb (sizeOf y z) _ l); room = room (x ∷ y ∷ z ∷ p) h }
+
+pub later-goes : (p : List ℕ) (b : ℕ) → frameNumAt < length p → held p ≡ true → length p + 1 < sizeOf (getD p secondAt 0) (getD p frameNumAt 0) → Placed step longest p b Behind
+unfolding choose
+later-goes [] b n h l = let z : ⊥ = omega arith in absurd z
+later-goes (x ∷ []) b n h l = let z : ⊥ = omega arith in absurd z
+later-goes (x ∷ y ∷ []) b n h l = let z : ⊥ = omega arith in absurd z
+later-goes (x ∷ y ∷ z ∷ p) b n h l = record { fate = behind-num x y z p b h ∙ rw (lt-leb (sizeOf y z) _ l); room = room (x ∷ y ∷ z ∷ p) h }
+
+-- the test of a part frame by how many bytes it has
+pub held-stages : (p : List ℕ)
+    → held p
+    ≡ choose (eqb (length p) 0) true
+    (choose (eqb (getD p 0 0) start)
+    (choose (eqb (length p) secondAt) true
+    (choose (goesOn (getD p secondAt 0))
+    (choose (eqb (length p) frameNumAt) true (heldWithNum p))
+    false))
+    false)
+unfolding held startsRight onceCome wanted commandIn isAcknowledge kindIn numIn goesOn commandOf sizeOf heldWithNum choose
+held-stages [] = refl
+held-stages (x ∷ []) = go (eqb x start)
+  where
+    go : (s : Bool) → ((s && (true && true)) && true) ≡ choose s true false
+    go true = refl
+    go false = refl
+held-stages (x ∷ y ∷ []) = go (eqb x start) (commandKnown (commandOf y)) (eqb (commandOf y) acknowledgeBits)
+  where
+    go : (s k a : Bool) → ((s && (k && true)) && ltb 2 (choose a 2 longest)) ≡ choose s (choose (k && not a) true false) false
+    go true true true = refl
+    go true true false = refl
+    go true false a = refl
+    go false k a = refl
+held-stages (x ∷ y ∷ z ∷ p) =
+    rw (ne-eqb n 0 (λ e. omega arith), ne-eqb n secondAt (λ e. omega arith), ne-eqb n frameNumAt (λ e. omega arith), lt-leb n secondAt (omega arith), lt-leb n frameNumAt (omega arith))
+    (go (eqb x start) (commandKnown (commandOf y)) (eqb (commandOf y) acknowledgeBits))
+  where
+    n : ℕ
+    n = length (x ∷ y ∷ z ∷ p)
+
+    size : ℕ
+    size = bareSize + carried (kindOf (commandOf y)) z
+
+    go : (s k a : Bool) → ((s && (k && leb z dataMost)) && ltb n (choose a 2 size)) ≡ choose s (choose (k && not a) (leb z dataMost && ltb n size) false) false
+    go true true true = rw (le-ltb n 2 (omega arith)) (and-false-right (leb z dataMost))
+    go true true false = refl
+    go true false a = refl
+    go false k a = refl
+
+-- behind NUM bytes are kept until the last
+pub sure-none : (p : List ℕ) → held p ≡ true → Sure held longest p 0
+sure-none p h =
+    record {
+      kept = λ more l. subst (λ (x : List ℕ). held x ≡ true) (sym (append-none p more l)) h;
+      room = omega (arith, room p h);
+    }
+  where
+    append-none : (p more : List ℕ) → length more ≤ 0 → p ++ more ≡ p
+    append-none p [] l = append-nil p
+    append-none p (x ∷ more) l = let z : ⊥ = omega arith in absurd z
+
+pub sure-num : (p : List ℕ) (n : ℕ) → frameNumAt < length p → held p ≡ true → length p + n + 1 ≡ sizeOf (getD p secondAt 0) (getD p frameNumAt 0) → Sure held longest p n
+unfolding heldWithNum numIn choose
+sure-num [] n l h e = let z : ⊥ = omega arith in absurd z
+sure-num (x ∷ []) n l h e = let z : ⊥ = omega arith in absurd z
+sure-num (x ∷ y ∷ []) n l h e = let z : ⊥ = omega arith in absurd z
+sure-num (x ∷ y ∷ z ∷ p) n l h e =
+    record {
+      kept = λ more k.
+          let c = come x y (z ∷ p) h in
+          let q = x ∷ y ∷ z ∷ (p ++ more) in
+          let long : length q ≡ length (x ∷ y ∷ z ∷ p) + length more = length-append (x ∷ y ∷ z ∷ p) more in
+          held-stages q ∙ rw (ne-eqb (length q) 0 (λ i. omega arith), c .starts, ne-eqb (length q) secondAt (λ i. omega arith), goes c, ne-eqb (length q) frameNumAt (λ i. omega arith), few, lt-ltb (length q) (sizeOf y z) (omega arith));
+      room = omega (arith, most);
+    }
+  where
+    m : ℕ
+    m = length (x ∷ y ∷ z ∷ p)
+
+    goes : Come x y → goesOn y ≡ true
+    goes c = unfold goesOn in rw (c .known, c .goes)
+
+    facts : (startsRight (x ∷ y ∷ z ∷ p) ≡ true) × (length (x ∷ y ∷ z ∷ p) < wanted (x ∷ y ∷ z ∷ p))
+    facts = held-facts (x ∷ y ∷ z ∷ p) (omega arith) h
+
+    few : leb z dataMost ≡ true
+    few =
+        unfold startsRight onceCome in
+        let a = and-true (eqb x start) _ (facts .0) in
+        and-true (commandKnown (commandIn (x ∷ y ∷ z ∷ p))) _ (rw (lt-leb m secondAt (omega arith), lt-leb m frameNumAt (omega arith)) at (a .1)) .1
+
+    most : sizeOf y z ≤ longest
+    most = unfold sizeOf carried in by-choice (λ (w : ℕ). bareSize + w ≤ longest) (eqb (kindOf (commandOf y)) noChange) _ _ (λ _. omega arith) (λ _. omega (arith, leb-true z dataMost few))
+
+pub missing : (p : List ℕ) → frameNumAt < length p → held p ≡ true → length p < sizeOf (getD p secondAt 0) (getD p frameNumAt 0)
+unfolding wanted isAcknowledge commandIn kindIn numIn sizeOf commandOf choose
+missing [] l h = let z : ⊥ = omega arith in absurd z
+missing (x ∷ []) l h = let z : ⊥ = omega arith in absurd z
+missing (x ∷ y ∷ []) l h = let z : ⊥ = omega arith in absurd z
+missing (x ∷ y ∷ z ∷ p) l h =
+    let m = length (x ∷ y ∷ z ∷ p) in
+    rw (lt-leb m secondAt (omega arith), lt-leb m frameNumAt (omega arith), come x y (z ∷ p) h .goes) at (held-facts (x ∷ y ∷ z ∷ p) (omega arith) h .1)

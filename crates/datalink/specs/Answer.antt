@@ -7,8 +7,8 @@ use lib.ListN.{getD, set, drop}
 use Rattle.wire.specs.Choose.{choose}
 use Rattle.wire.specs.Buffer.{part, overlay}
 use Rattle.card.specs.Numbers.{answered, done, nothingPending}
-use Rattle.card.specs.Layout.{Card, cardOf, withPending, iaAt, kindAt, numAt, lowAddressAt, highAddressAt, dataAt}
-use Rattle.card.specs.Change.{noChange, changeBits, named, addressOf, memoryStart}
+use Rattle.card.specs.Layout.{Card, cardOf, withPorts, iaAt, kindAt, numAt, lowAddressAt, highAddressAt, dataAt}
+use Rattle.card.specs.Change.{noChange, changeBits, named, twoBytes, memoryStart}
 use Rattle.card.specs.Entries.{dropped}
 use Rattle.card.specs.Reply.{Reply, silent, sent, shell, roomLeast}
 use Rattle.datalink.specs.Form.{framed, responseBits, frameNumAt, frameDataAt}
@@ -38,7 +38,7 @@ bodyOf f num = part f frameNumAt (frameDataAt + num)
 
 -- "An echoed change becomes the pending one, in place of an older."
 unfoldable pub pended : Card → ℕ → List ℕ → Card
-pended card kind body = withPending card (overlay (kind ∷ body) (card .pending))
+pended card kind body = withPorts card (overlay (kind ∷ body) (card .ports))
 
 -- Change and Change Bits: the echo
 unfoldable pub echoed : Card → List ℕ → ℕ → ℕ → Reply
@@ -57,14 +57,14 @@ changed kind a sent (suc k) memory =
 -- the memory with a pending change applied
 unfoldable pub appliedTo : List ℕ → List ℕ → List ℕ
 appliedTo memory p =
-    changed (getD p kindAt 0) (addressOf (getD p lowAddressAt 0) (getD p highAddressAt 0) - memoryStart) (drop dataAt p) (named (getD p kindAt 0) (getD p numAt 0)) memory
+    changed (getD p kindAt 0) (twoBytes (getD p lowAddressAt 0) (getD p highAddressAt 0) - memoryStart) (drop dataAt p) (named (getD p kindAt 0) (getD p numAt 0)) memory
 
 -- "Acknowledge applies and clears it (1), or is 10."
 unfoldable pub applied : Card → Card
-applied card = cardOf (card .words) (appliedTo (card .memory) (card .pending)) (dropped (card .pending))
+applied card = cardOf (card .words) (appliedTo (card .memory) (card .ports)) (dropped (card .ports))
 
 unfoldable pub acknowledged : Card → Reply
-acknowledged card = choose (eqb (getD (card .pending) kindAt 0) noChange) (silent nothingPending card) (silent done (applied card))
+acknowledged card = choose (eqb (getD (card .ports) kindAt 0) noChange) (silent nothingPending card) (silent done (applied card))
 
 -- what the card does with each order
 unfoldable pub obeyed : Card → List ℕ → Order → Reply

@@ -8,7 +8,7 @@ use Rattle.wire.specs.Choose.{choose}
 use Rattle.wire.specs.Buffer.{part}
 use Rattle.wire.specs.Sum.{sumOf}
 use Rattle.card.specs.Numbers.{foreignAddress, frameForm, checkCharacter, commandUnknown, rangeUnknown, readOnly}
-use Rattle.card.specs.Change.{noChange, change, changeBits, named, numRight, inMemory, namesReadOnly, addressOf}
+use Rattle.card.specs.Change.{noChange, change, changeBits, named, numRight, inMemory, namesReadOnly, twoBytes}
 use Rattle.datalink.specs.Form.{lengthRight, start, iaValues, interrogateBits, changeCommandBits, changeBitsBits, acknowledgeBits, secondAt, frameNumAt, frameLowAddressAt, frameHighAddressAt, acknowledgeSize, bareSize}
 use Rattle.datalink.specs.declared.frame.Order.{Order}
 use Rattle.datalink.specs.declared.frame.Order.the-variants.{Silent, Interrogate, Change, Acknowledge}
@@ -24,7 +24,7 @@ unfoldable pub numIn : List ℕ → ℕ
 numIn f = getD f frameNumAt 0
 
 unfoldable pub addressIn : List ℕ → ℕ
-addressIn f = addressOf (getD f frameLowAddressAt 0) (getD f frameHighAddressAt 0)
+addressIn f = twoBytes (getD f frameLowAddressAt 0) (getD f frameHighAddressAt 0)
 
 -- "Interrogate E0h, Change A0h, Change Bits C0h, Acknowledge 80h"
 unfoldable pub commandKnown : ℕ → Bool

@@ -21,7 +21,7 @@ ghost use mathlib.Core.List.{_++_, _∷_};
 ghost use Prim.Native.Nat.{_+_, _-_, _<_, _≤_};
 ghost use lib.ListN.{length};
 ghost use Rattle.wire.specs.Buffer.{overlay, part};
-ghost use Rattle.card.specs.Layout.{cardOf, memorySize, pendingSize, dataMost};
+ghost use Rattle.card.specs.Layout.{cardOf, memorySize, rowSize, dataMost};
 ghost use Rattle.card.specs.Change.{changeBits, memoryStart, memoryEnd};
 ghost use Rattle.card.specs.Fitness.{iaMost};
 ghost use Rattle.card.specs.Fit.{Fit};
@@ -40,12 +40,12 @@ fn respond(out: &mut [u8], ia: u32, head: &[u8], bytes: &[u8]) -> usize
 }
 
 // Makes a change of its kind, with NUM, address and data as its body, the pending one.
-fn pend(pending: &mut [u8], kind: u8, body: &[u8])
-    requires { ⌜ 1 + length (now body) ≤ length (now pending) ⌝ }
-    ensures { λ _. ⌜ now (pending .exit) ≡ overlay (kind ∷ now (body .entry)) (now (pending .entry)) ⌝ }
+fn pend(ports: &mut [u8], kind: u8, body: &[u8])
+    requires { ⌜ 1 + length (now body) ≤ length (now ports) ⌝ }
+    ensures { λ _. ⌜ now (ports .exit) ≡ overlay (kind ∷ now (body .entry)) (now (ports .entry)) ⌝ }
 {
-    pending[KIND] = kind;
-    wire::copy(body, pending, NUM);
+    ports[KIND] = kind;
+    wire::copy(body, ports, NUM);
 }
 
 // Byte i of a change: the byte sent, or (old AND mask) OR state.
@@ -74,22 +74,22 @@ fn apply(memory: &mut [u8], kind: u8, a: usize, sent: &[u8], count: usize)
 }
 
 // Acknowledge: applies and clears the pending change, if there is one.
-fn acknowledge(words: &[u32], memory: &mut [u8], pending: &mut [u8]) -> u8
-    requires { ⌜ Fit (cardOf (now words) (now memory) (now pending)) ⌝ }
+fn acknowledge(words: &[u32], memory: &mut [u8], ports: &mut [u8]) -> u8
+    requires { ⌜ Fit (cardOf (now words) (now memory) (now ports)) ⌝ }
     ensures { λ r.
-        let before = cardOf (now (words .entry)) (now (memory .entry)) (now (pending .entry)) in
-        let after = cardOf (now (words .entry)) (now (memory .exit)) (now (pending .exit)) in
+        let before = cardOf (now (words .entry)) (now (memory .entry)) (now (ports .entry)) in
+        let after = cardOf (now (words .entry)) (now (memory .exit)) (now (ports .exit)) in
         ⌜ Did (acknowledged before) r after ⌝ }
 {
-    let kind = pending[KIND];
+    let kind = ports[KIND];
     if kind == NO_CHANGE {
         return NOTHING_PENDING;
     }
-    let at = change::address(pending[LOW_ADDRESS], pending[HIGH_ADDRESS]) as usize;
+    let at = change::two_bytes(ports[LOW_ADDRESS], ports[HIGH_ADDRESS]) as usize;
     let a = at - MEMORY_START as usize;
-    let count = change::bytes_named(kind, pending[NUM]) as usize;
-    apply(memory, kind, a, &pending[DATA..], count);
-    pending[KIND] = NO_CHANGE;
+    let count = change::bytes_named(kind, ports[NUM]) as usize;
+    apply(memory, kind, a, &ports[DATA..], count);
+    ports[KIND] = NO_CHANGE;
     DONE
 }
 
@@ -104,9 +104,9 @@ fn interrogate(memory: &[u8], ia: u32, f: &[u8], at: u16, n: u8, out: &mut [u8])
 }
 
 // Echoes a change of its kind and NUM, which becomes the pending one.
-fn echo(pending: &mut [u8], ia: u32, f: &[u8], kind: u8, num: u8, out: &mut [u8]) -> usize
-    requires { ⌜ ((ia ≤ iaMost) × (length (now f) ≡ bareSize + num)) × ((num ≤ dataMost) × ((length (now pending) ≡ pendingSize) × (roomLeast ≤ length (now out)))) ⌝ }
-    ensures { λ r. ⌜ Wrote (response ia (bodyOf (now (f .entry)) num)) (now (out .entry)) r (now (out .exit)) × (now (pending .exit) ≡ overlay (kind ∷ bodyOf (now (f .entry)) num) (now (pending .entry))) ⌝ }
+fn echo(ports: &mut [u8], ia: u32, f: &[u8], kind: u8, num: u8, out: &mut [u8]) -> usize
+    requires { ⌜ ((ia ≤ iaMost) × (length (now f) ≡ bareSize + num)) × ((num ≤ dataMost) × ((length (now ports) ≡ rowSize) × (roomLeast ≤ length (now out)))) ⌝ }
+    ensures { λ r. ⌜ Wrote (response ia (bodyOf (now (f .entry)) num)) (now (out .entry)) r (now (out .exit)) × (now (ports .exit) ≡ overlay (kind ∷ bodyOf (now (f .entry)) num) (now (ports .entry))) ⌝ }
 {
     let e = Datalink::DATA + num as usize;
     let len = respond(
@@ -115,7 +115,7 @@ fn echo(pending: &mut [u8], ia: u32, f: &[u8], kind: u8, num: u8, out: &mut [u8]
         &f[Datalink::NUM..Datalink::DATA],
         &f[Datalink::DATA..e],
     );
-    pend(pending, kind, &f[Datalink::NUM..e]);
+    pend(ports, kind, &f[Datalink::NUM..e]);
     len
 }
 
@@ -123,16 +123,16 @@ fn echo(pending: &mut [u8], ia: u32, f: &[u8], kind: u8, num: u8, out: &mut [u8]
 pub fn obey(
     words: &[u32],
     memory: &mut [u8],
-    pending: &mut [u8],
+    ports: &mut [u8],
     f: &[u8],
     order: Order,
     out: &mut [u8],
 ) -> Outcome
-    requires { let card = cardOf (now words) (now memory) (now pending) in
+    requires { let card = cardOf (now words) (now memory) (now ports) in
         ⌜ (Fit card × (roomLeast ≤ length (now out))) × (order ≡ asked (iaOf card) (now f)) ⌝ }
     ensures { λ r.
-        let before = cardOf (now (words .entry)) (now (memory .entry)) (now (pending .entry)) in
-        let after = cardOf (now (words .entry)) (now (memory .exit)) (now (pending .exit)) in
+        let before = cardOf (now (words .entry)) (now (memory .entry)) (now (ports .entry)) in
+        let after = cardOf (now (words .entry)) (now (memory .exit)) (now (ports .exit)) in
         ⌜ Gave (obeyed before (now (f .entry)) order) (now (out .entry)) r after (now (out .exit)) ⌝ }
 {
     let ia = words[IA];
@@ -144,10 +144,10 @@ pub fn obey(
         },
         Order::Change(kind, num) => Outcome {
             number: ANSWERED,
-            len: echo(pending, ia, f, kind, num, out),
+            len: echo(ports, ia, f, kind, num, out),
         },
         Order::Acknowledge => Outcome {
-            number: acknowledge(words, memory, pending),
+            number: acknowledge(words, memory, ports),
             len: 0,
         },
     }

@@ -47,7 +47,7 @@ fn command_in(f: &[u8]) -> u8
 }
 
 // Whether a command is one of the four.
-fn command_known(command: u8) -> bool
+pub(crate) fn command_known(command: u8) -> bool
     ensures { λ r. ⌜ r ≡ commandKnown command ⌝ }
 {
     if command == Datalink::ACKNOWLEDGE {
@@ -58,7 +58,7 @@ fn command_known(command: u8) -> bool
 }
 
 // The kind of change that a command asks for.
-fn kind_of(command: u8) -> u8
+pub(crate) fn kind_of(command: u8) -> u8
     ensures { λ r. ⌜ r ≡ kindOf command ⌝ }
 {
     if command == Datalink::CHANGE {
@@ -71,7 +71,7 @@ fn kind_of(command: u8) -> u8
 }
 
 // How many data bytes a frame of NUM carries.
-fn data_carried(kind: u8, num: u8) -> u8
+pub(crate) fn data_carried(kind: u8, num: u8) -> u8
     ensures { λ r. ⌜ r ≡ carried kind num ⌝ }
 {
     if kind == NO_CHANGE {
@@ -134,7 +134,7 @@ fn order_in(command: u8, f: &[u8]) -> Order
         return Order::Acknowledge;
     }
     let kind = kind_of(command);
-    let at = change::address(f[Datalink::LOW_ADDRESS], f[Datalink::HIGH_ADDRESS]);
+    let at = change::two_bytes(f[Datalink::LOW_ADDRESS], f[Datalink::HIGH_ADDRESS]);
     order_at(kind, f[Datalink::NUM], at)
 }
 

@@ -46,7 +46,7 @@ pub record Echoed (q : Request) (card : Card) (r : Reply) : Type 0 where
 
 -- the pending change, applied
 pub record Applied (card : Card) (r : Reply) : Type 0 where
-  pub pending : getD (card .pending) kindAt 0 ≡ noChange → ⊥
+  pub ports : getD (card .ports) kindAt 0 ≡ noChange → ⊥
   pub applies : r .card ≡ applied card
   pub fitting : fit card ≡ true
 
@@ -113,9 +113,9 @@ module _ (q : Request) (a : Accepted q) (card : Card) where
       let f = acknowledgeFrame q in
       frame-arrives card f (Applied card) room _ (order-acknowledge (iaOf card) q a)
       (λ t. or-turned card f (Applied card) (eqb (q .ia) (iaOf card)) Acknowledge foreignAddress (lit≤ tt)
-      (λ _. by-choice (λ (r : Reply). Turned card r ⊎ Applied card r) (eqb (getD (card .pending) kindAt 0) noChange) _ _
+      (λ _. by-choice (λ (r : Reply). Turned card r ⊎ Applied card r) (eqb (getD (card .ports) kindAt 0) noChange) _ _
       (λ _. inl (turned card nothingPending (lit≤ tt)))
-      (λ some. inr (record { pending = eqb-false (getD (card .pending) kindAt 0) noChange some; applies = refl; fitting = t }))))
+      (λ some. inr (record { ports = eqb-false (getD (card .ports) kindAt 0) noChange some; applies = refl; fitting = t }))))
 
   -- NUM and address as the card takes them out of the frame
   head-taken : (read : List ℕ) → part (interrogateFrame q) frameNumAt frameDataAt ++ read ≡ body (namedBy (q .ask)) (q .address) read

@@ -60,7 +60,7 @@ module _ (q : Request) (a : Accepted q) (start card : Card) (line : Line) (r : R
   changing-echoed : Echoed q card r → AtChanging q start card line → AtChanging q start (r .card) (afterArrival line r)
   unfolding afterArrival
   changing-echoed t v =
-      let held : Held q (r .card) = subst (Held q) (sym (t .pends)) (inl (ours-pended q card)) in
+      let held : Held q (r .card) = subst (Held q) (sym (t .pends)) (inl (ours-pended q a card)) in
       let old : Same start (r .card) = subst (Same start) (sym (t .pends)) (same-then (v .old) (same-pended q card)) in
       let within = range q (t .range) in
       record {
@@ -87,11 +87,11 @@ module _ (q : Request) (a : Accepted q) (start card : Card) (line : Line) (r : R
     where
       from : Same start card → Held q card → After q start (applied card)
       from s (inl o) = record { asked = then-asked q start card (applied card) (v .range) s (asked-applied q a (v .range) card (t .fitting) o); none = none-applied card }
-      from s (inr n) = absurd (t .pending (n .kind))
+      from s (inr n) = absurd (t .ports (n .kind))
 
       by : Stand q start card → After q start (applied card)
       by (inl b) = from (b .old) (b .held)
-      by (inr f) = absurd (t .pending (f .none .kind))
+      by (inr f) = absurd (t .ports (f .none .kind))
 
   -- the interrogate, refused or answered, leaves the card; its answers show the bytes as they are
   reading-kept : r .card ≡ card → Every (Shows q card) (afterArrival line r .answers) → AtReading q start card line → AtReading q start (r .card) (afterArrival line r)

@@ -13,7 +13,7 @@ use Rattle.wire.proofs.Computed.{computed as wire-computed}
 use Rattle.card.proofs.Computed.{computed as card-computed}
 use Rattle.datalink.proofs.Computed.{computed as datalink-computed}
 use Rattle.master.proofs.Computed.{computed as master-computed}
-use Rattle.card.specs.Layout.{Card, cardOf, memorySize, dataMost, pendingSize}
+use Rattle.card.specs.Layout.{Card, cardOf, memorySize, rowSize}
 use Rattle.card.specs.Change.{change}
 use Rattle.card.specs.Start.{startWords}
 use Rattle.master.specs.Request.{Request}
@@ -32,7 +32,7 @@ computed = tt
 
 -- the premise word for word, as a test
 
-abbrev allowsCall : {State : Type 0} → Build State → World State → Call → Bool
+abbrev pub allowsCall : {State : Type 0} → Build State → World State → Call → Bool
 allowsCall b w (Step choice room) = true
 allowsCall b w (Arrival room) = leb (w .line .arrivals) 1
 allowsCall b w (Other e) = not (asksWrite (w .card) e) || refused (b .card (w .card) e .number)
@@ -59,14 +59,14 @@ allowed b q w (c ∷ calls) e =
 
 -- a card of I.A. 3 whose memory is FFh throughout, with this pending change
 abbrev pub cardWith : List ℕ → Card
-cardWith pending = cardOf startWords (replicate memorySize 0xFF) pending
+cardWith ports = cardOf startWords (replicate memorySize 0xFF) ports
 
 abbrev pub fresh : Card
-fresh = cardWith (replicate pendingSize 0)
+fresh = cardWith (replicate rowSize 0)
 
 -- another's Change of the byte 1020h to 7 is pending
 abbrev pub stale : Card
-stale = cardWith (change ∷ 1 ∷ 0x20 ∷ 0x10 ∷ 7 ∷ replicate (dataMost - 1) 0)
+stale = cardWith (change ∷ 1 ∷ 0x20 ∷ 0x10 ∷ 7 ∷ replicate (rowSize - 5) 0)
 
 -- 08h and 0Ch to 1010h and 1011h
 abbrev pub two : Request

@@ -19,11 +19,11 @@ use Rattle.master.specs.declared.Phase.the-variants.{New, Changing, Acknowledgi
 use Rattle.master.specs.declared.Verdict.the-variants.{Open, Done}
 use Rattle.master.proofs.Requests.{accepted}
 use Rattle.calls.specs.Calls.{Call as Entry, frameReply, replyOf}
-use Rattle.calls.specs.Calls.Call.{SetCode, Restart, Governor, Frame, WriteImage, ReadImage}
+use Rattle.calls.specs.Calls.Call.{SetCode, Restart, Governor, Frame, Receive, Quiet as Hush, WriteImage, ReadImage}
 use Rattle.calls.proofs.Memory.{Same, mild}
 use Rattle.exchange.specs.Calls.{Call}
 use Rattle.exchange.specs.Calls.Call.{Step, Arrival, Other}
-use Rattle.exchange.specs.Line.{Line, World, changeRound, begin, asWritten, afterRestart, afterOther, called, run}
+use Rattle.exchange.specs.Line.{Line, World, Build, changeRound, begin, asWritten, afterRestart, afterOther, called, run}
 use Rattle.exchange.specs.Premise.{Quiet, AllQuiet, AsWorded}
 use Rattle.exchange.specs.Demand.{byteAt, Writable, Named, Old, AsAsked, due, allLossless, Demand3}
 use Rattle.exchange.proofs.Invariant.{AllNamed, Settled, InvAt, Inv, mildly}
@@ -47,6 +47,8 @@ other-line q start card phase line (SetCode channel code) v = v
 other-line q start card phase line Restart v = restarted-line q start card phase line v
 other-line q start card phase line (Governor channel) v = v
 other-line q start card phase line (Frame dialect room f) v = v
+other-line q start card phase line (Receive dialect room bytes) v = v
+other-line q start card phase line (Hush dialect) v = v
 other-line q start card phase line (WriteImage room) v = v
 other-line q start card phase line (ReadImage img) v = v
 
@@ -154,11 +156,11 @@ demand-3 q start calls e quiet =
     (all-calls q a start (begin asWritten start) calls quiet (record { old = record { at = λ j h. refl }; frame = refl; frames = refl; closed = refl }))
 
 -- the premise word for word, a frame arriving at most twice in its round, is the narrower one
-quiet-worded : (q : Request) (w : World Phase) (calls : List Call) → AsWorded asWritten q w calls → AllQuiet asWritten q w calls
+pub quiet-worded : {State : Type 0} (b : Build State) (q : Request) (w : World State) (calls : List Call) → AsWorded b q w calls → AllQuiet b q w calls
 unfolding AllQuiet AsWorded
-quiet-worded q w [] h = tt
-quiet-worded q w (c ∷ calls) h = (h .0 .1, quiet-worded q (called asWritten q w c) calls (h .1))
+quiet-worded b q w [] h = tt
+quiet-worded b q w (c ∷ calls) h = (h .0 .1, quiet-worded b q (called b q w c) calls (h .1))
 
 -- DEMAND 3 word for word
 pub demand-3-as-worded : (q : Request) (start : Card) (calls : List Call) → askable q ≡ true → AsWorded asWritten q (begin asWritten start) calls → Demand3 asWritten q start (run asWritten q (begin asWritten start) calls)
-demand-3-as-worded q start calls e h = demand-3 q start calls e (quiet-worded q (begin asWritten start) calls h)
+demand-3-as-worded q start calls e h = demand-3 q start calls e (quiet-worded asWritten q (begin asWritten start) calls h)

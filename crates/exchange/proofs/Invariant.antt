@@ -7,8 +7,9 @@ use mathlib.Core.Logic._⊎_.{inl, inr}
 use Prim.{Unit, tt}
 use Prim.Native.Nat.{ℕ, _+_, _-_, _≤_, _<_}
 use native.Mathlib.Omega.{arith}
-use lib.ListN.{length, getD}
-use Rattle.card.specs.Layout.{Card, kindAt}
+use lib.ListN.{length, getD, take}
+use lib.Seq.{getD-take}
+use Rattle.card.specs.Layout.{Card, kindAt, pendingSize}
 use Rattle.card.specs.Change.{memoryStart, writableStart}
 use Rattle.datalink.specs.Answer.{response}
 use Rattle.master.specs.Request.{Request, namedBy, asAsked}
@@ -20,7 +21,7 @@ use Rattle.master.specs.declared.Verdict.the-variants.{Done, Unknown}
 use Rattle.exchange.specs.Line.{Line, World, changeRound, acknowledgeRound, interrogateRound}
 use Rattle.exchange.specs.Demand.{allLossless, due}
 use Rattle.calls.proofs.Memory.{Same, None, Mild}
-use Rattle.exchange.proofs.Memory.{Range, Ours, AskedOf}
+use Rattle.exchange.proofs.Memory.{Range, Ours, ours-then, AskedOf}
 
 -- what holds of every answer of the round
 abbrev pub Every : (List ℕ → Type 0) → List (List ℕ) → Type 0
@@ -33,7 +34,7 @@ every-map (a ∷ answers) f e = (f a (e .0), every-map answers f (e .1))
 
 -- the master's change is pending, or nothing is
 abbrev pub Held : Request → Card → Type 0
-Held q card = Ours q (card .pending) ⊎ None (card .pending)
+Held q card = Ours q (card .ports) ⊎ None (card .ports)
 
 -- an exact echo; then the range is writable, and the change is pending or was dropped
 pub record EchoHeard (q : Request) (card : Card) (a : List ℕ) : Type 0 where
@@ -56,7 +57,7 @@ pub record Before (q : Request) (start card : Card) : Type 0 where
 -- applied, and nothing is pending
 pub record After (q : Request) (start card : Card) : Type 0 where
   pub asked : AskedOf q start card
-  pub none : None (card .pending)
+  pub none : None (card .ports)
 
 abbrev pub Stand : Request → Card → Card → Type 0
 Stand q start card = Before q start card ⊎ After q start card
@@ -149,18 +150,19 @@ then-asked q a b c r s p =
 -- a call that is mild, as restart, another's frame and every other entry
 
 module _ (q : Request) (start a b : Card) (m : Mild a b) where
-  none-then : None (a .pending) → None (b .pending)
-  none-then n = by (m .pending)
+  none-then : None (a .ports) → None (b .ports)
+  none-then n = by (m .ports)
     where
-      by : (b .pending ≡ a .pending) ⊎ None (b .pending) → None (b .pending)
-      by (inl e) = record { kind = ap (λ (p : List ℕ). getD p kindAt 0) e ∙ n .kind }
+      by : (take pendingSize (b .ports) ≡ take pendingSize (a .ports)) ⊎ None (b .ports) → None (b .ports)
+      by (inl e) =
+          record { kind = sym (getD-take pendingSize (b .ports) kindAt 0 (omega arith)) ∙ ap (λ (p : List ℕ). getD p kindAt 0) e ∙ getD-take pendingSize (a .ports) kindAt 0 (omega arith) ∙ n .kind }
       by (inr e) = e
 
   held-then : Held q a → Held q b
-  held-then (inl o) = by (m .pending)
+  held-then (inl o) = by (m .ports)
     where
-      by : (b .pending ≡ a .pending) ⊎ None (b .pending) → Held q b
-      by (inl e) = inl (record { rest = o .rest; front = e ∙ o .front })
+      by : (take pendingSize (b .ports) ≡ take pendingSize (a .ports)) ⊎ None (b .ports) → Held q b
+      by (inl e) = inl (ours-then q (a .ports) (b .ports) o e)
       by (inr e) = inr e
   held-then (inr n) = inr (none-then n)
 

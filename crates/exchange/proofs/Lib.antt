@@ -9,3 +9,5 @@ pub mod Computed
 pub mod Runs
 pub mod Refuted
 pub mod InC
+pub mod Collected
+pub mod CollectedRuns

@@ -1,5 +1,5 @@
 -- Writable memory and the pending change under each call of the card. Assumes nothing.
-use mathlib.Core.Path.{_≡_, refl, ap, ap₂, _∙_}
+use mathlib.Core.Path.{_≡_, refl, sym, ap, ap₂, _∙_}
 use mathlib.Core.Bool.{Bool, true, false, _&&_, not}
 use mathlib.Core.List.{List, _∷_, _++_}
 use Prim.Native.Nat.{ℕ, zero, suc, _+_, _-_, _*_, _%_, _/_, _≤_, _<_}
@@ -7,19 +7,19 @@ use native.Mathlib.Omega.{arith}
 use borrow.Author.Tests.{leb-true, ltb-false, eqb-true, eqb-false}
 use lib.Bits.{bitAnd, bitOr}
 use lib.Dec.{leb, ltb, eqb}
-use lib.ListN.{length, getD, set, List·getD-append}
-use lib.Seq.{getD-set-same, getD-set-other}
+use lib.ListN.{length, getD, set, take, drop, take-append-drop, List·getD-append}
+use lib.Seq.{getD-set-same, getD-set-other, take-take, take-append-seam}
 use Rattle.wire.proofs.Tests.{and-true}
 use Rattle.wire.specs.Choose.{choose}
 use Rattle.wire.specs.Buffer.{overlay}
-use Rattle.card.specs.Layout.{Card}
-use Rattle.card.specs.Change.{memoryStart, memoryEnd, writableStart, inMemory, namesReadOnly, addressOf}
+use Rattle.card.specs.Layout.{Card, dataMost, pendingSize}
+use Rattle.card.specs.Change.{memoryStart, memoryEnd, writableStart, inMemory, namesReadOnly, twoBytes}
 use Rattle.card.specs.Fitness.{fit}
 use Rattle.card.specs.Reply.{sent}
 use Rattle.card.proofs.Facts.{fit-facts}
 use Rattle.datalink.specs.Answer.{newByte, changed, appliedTo, applied, pended}
 use Rattle.datalink.proofs.Fits.{length-changed}
-use Rattle.master.specs.Request.{Ask, Request, namedBy, paired, asAsked}
+use Rattle.master.specs.Request.{Ask, Request, namedBy, namedMost, paired, asAsked}
 use Rattle.master.specs.Request.Ask.{bytes, bits}
 use Rattle.master.specs.Accepted.{Accepted}
 use Rattle.master.specs.Frames.{pairs, dataOf, changeBody}
@@ -70,14 +70,27 @@ range q e =
     by false false u v f i h = ltb-false (q .address) writableStart v
 
 -- the master's change is pending
-pub record Ours (q : Request) (pending : List ℕ) : Type 0 where
+pub record Ours (q : Request) (ports : List ℕ) : Type 0 where
   pub rest : List ℕ
-  pub front : pending ≡ (kindFor (q .ask) ∷ changeBody q) ++ rest
+  pub front : ports ≡ (kindFor (q .ask) ∷ changeBody q) ++ rest
+  pub short : length (kindFor (q .ask) ∷ changeBody q) ≤ pendingSize
+
+-- it stays so in a row with the same pending change
+pub ours-then : (q : Request) (ports ports′ : List ℕ) → Ours q ports → take pendingSize ports′ ≡ take pendingSize ports → Ours q ports′
+ours-then q ports ports′ o e =
+    let c = kindFor (q .ask) ∷ changeBody q in
+    let t : take (length c) ports′ ≡ c =
+    sym (take-take (length c) pendingSize ports′ (o .short)) ∙ ap (take (length c)) e ∙ take-take (length c) pendingSize ports (o .short) ∙ ap (take (length c)) (o .front) ∙ take-append-seam c (o .rest) in
+    record { rest = drop (length c) ports′; front = sym (ap (λ (l : List ℕ). l ++ drop (length c) ports′) (sym t) ∙ take-append-drop (length c) ports′); short = o .short }
+
+data-few : (a : Ask) → namedBy a ≤ namedMost a → paired a ≡ true → length (dataOf a) ≤ dataMost
+data-few (bytes sent) few e = few
+data-few (bits masks states) few e = omega (arith, pairs-length masks states (eqb-true (length masks) (length states) e))
 
 -- the echo: memory stays, and the change is the pending one
-pub ours-pended : (q : Request) (card : Card) → Ours q (pended card (kindFor (q .ask)) (changeBody q) .pending)
+pub ours-pended : (q : Request) → Accepted q → (card : Card) → Ours q (pended card (kindFor (q .ask)) (changeBody q) .ports)
 unfolding pended overlay
-ours-pended q card = record { rest = _; front = refl }
+ours-pended q a card = record { rest = _; front = refl; short = omega (arith, data-few (q .ask) (a .few) (a .pairs)) }
 
 pub same-pended : (q : Request) (card : Card) → Same card (pended card (kindFor (q .ask)) (changeBody q))
 unfolding pended
@@ -102,13 +115,13 @@ pub record AskedOf (q : Request) (card card′ : Card) : Type 0 where
   pub asked : (i : ℕ) → i < namedBy (q .ask) → getD (card′ .memory) (q .address - memoryStart + i) 0 ≡ asAsked (q .ask) (getD (card .memory) (q .address - memoryStart + i) 0) i
   pub others : (j : ℕ) → writableStart - memoryStart ≤ j → ((i : ℕ) → i < namedBy (q .ask) → j ≡ q .address - memoryStart + i → ⊥) → getD (card′ .memory) j 0 ≡ getD (card .memory) j 0
 
-pub none-applied : (card : Card) → None (applied card .pending)
+pub none-applied : (card : Card) → None (applied card .ports)
 unfolding applied
-none-applied card = none-dropped (card .pending)
+none-applied card = none-dropped (card .ports)
 
-module _ (q : Request) (a : Accepted q) (r : Range q) (card : Card) (e : fit card ≡ true) (o : Ours q (card .pending)) where
+module _ (q : Request) (a : Accepted q) (r : Range q) (card : Card) (e : fit card ≡ true) (o : Ours q (card .ports)) where
   applied-memory : applied card .memory ≡ changed (kindFor (q .ask)) (q .address - memoryStart) (dataOf (q .ask) ++ o .rest) (namedBy (q .ask)) (card .memory)
-  unfolding applied appliedTo addressOf
+  unfolding applied appliedTo twoBytes
   applied-memory =
       let at : q .address % 256 + 256 * (q .address / 256) ≡ q .address = omega arith in
       rw (o .front, at, named-for (q .ask) (a .pairs))

@@ -26,9 +26,10 @@ use Rattle.master.specs.declared.Phase.{Phase}
 use Rattle.master.specs.declared.Phase.the-variants.{New, Changing, Acknowledging, Reading, EndedDone, EndedUnknown}
 use Rattle.master.specs.declared.Verdict.{Verdict}
 use Rattle.master.specs.declared.Verdict.the-variants.{Open, Done, Unknown}
-use Rattle.calls.specs.Calls.{Dialect, Call as Entry, replyOf}
-use Rattle.calls.specs.Calls.Dialect.{Datalink, Lecom, Love, Lucid}
-use Rattle.calls.specs.Calls.Call.{SetCode, Restart, Governor, Frame, WriteImage, ReadImage}
+use Rattle.receive.specs.declared.Dialect.{Dialect}
+use Rattle.receive.specs.declared.Dialect.the-variants.{Datalink, Lecom, Love, Lucid}
+use Rattle.calls.specs.Calls.{Call as Entry, replyOf}
+use Rattle.calls.specs.Calls.Call.{SetCode, Restart, Governor, Frame, Receive, Quiet, WriteImage, ReadImage}
 use Rattle.exchange.specs.Calls.{Call}
 use Rattle.exchange.specs.Calls.Choice.{none}
 use Rattle.exchange.specs.Calls.Call.{Step, Other}
@@ -233,6 +234,8 @@ asks card (SetCode channel code) = Silent 0
 asks card Restart = Silent 0
 asks card (Governor channel) = Silent 0
 asks card (Frame dialect room f) = frameAsks card dialect f
+asks card (Receive dialect room come) = Silent 0
+asks card (Quiet dialect) = Silent 0
 asks card (WriteImage room) = Silent 0
 asks card (ReadImage img) = Silent 0
 
@@ -241,7 +244,7 @@ unfoldable eagerly : Order → Reply → Reply
 eagerly (Silent number) r = r
 eagerly (Interrogate at n) r = r
 eagerly (Change kind num) r =
-    choose (eqb (r .number) answered) (record { number = r .number; bytes = r .bytes; card = cardOf (r .card .words) (appliedTo (r .card .memory) (r .card .pending)) (r .card .pending) }) r
+    choose (eqb (r .number) answered) (record { number = r .number; bytes = r .bytes; card = cardOf (r .card .words) (appliedTo (r .card .memory) (r .card .ports)) (r .card .ports) }) r
 eagerly Acknowledge r = r
 
 abbrev eager : Build Phase
@@ -258,7 +261,7 @@ halved card (Silent number) r = r
 halved card (Interrogate at n) r = r
 halved card (Change kind num) r = r
 halved card Acknowledge r =
-    record { number = r .number; bytes = r .bytes; card = cardOf (r .card .words) (set (r .card .memory) 0x11 (getD (card .memory) 0x11 0)) (r .card .pending) }
+    record { number = r .number; bytes = r .bytes; card = cardOf (r .card .words) (set (r .card .memory) 0x11 (getD (card .memory) 0x11 0)) (r .card .ports) }
 
 abbrev half : Build Phase
 half = cardBy (λ card e. halved card (asks card e) (replyOf card e))
@@ -281,6 +284,8 @@ anyChannel card (SetCode channel code) = silent done (withCode card channel code
 anyChannel card Restart = replyOf card Restart
 anyChannel card (Governor channel) = replyOf card (Governor channel)
 anyChannel card (Frame dialect room f) = replyOf card (Frame dialect room f)
+anyChannel card (Receive dialect room come) = replyOf card (Receive dialect room come)
+anyChannel card (Quiet dialect) = replyOf card (Quiet dialect)
 anyChannel card (WriteImage room) = replyOf card (WriteImage room)
 anyChannel card (ReadImage img) = replyOf card (ReadImage img)
 

@@ -23,7 +23,7 @@ use Rattle.master.specs.declared.Phase.{Phase}
 use Rattle.master.specs.declared.Verdict.{Verdict}
 use Rattle.master.specs.declared.Verdict.the-variants.{Open, Done, Unknown}
 use Rattle.calls.specs.Calls.{replyOf}
-use Rattle.calls.specs.Calls.Dialect.{Datalink}
+use Rattle.receive.specs.declared.Dialect.the-variants.{Datalink}
 use Rattle.calls.specs.Calls.Call.{SetCode, Restart, Frame, ReadImage}
 use Rattle.exchange.specs.Calls.{Call}
 use Rattle.exchange.specs.Calls.Choice.{answer}
@@ -124,7 +124,7 @@ others-between = record { asked = refl; allowed = refl; said = refl; held = refl
 -- known by the image's laws; no image is computed.
 
 abbrev cardOfIa : ℕ → Card
-cardOfIa ia = cardOf (set (fresh .words) iaAt ia) (fresh .memory) (fresh .pending)
+cardOfIa ia = cardOf (set (fresh .words) iaAt ia) (fresh .memory) (fresh .ports)
 
 abbrev imageRead : ℕ → Call
 imageRead ia = Other (ReadImage (imageOf (cardOfIa ia .words)))
@@ -132,7 +132,7 @@ imageRead ia = Other (ReadImage (imageOf (cardOfIa ia .words)))
 -- the world after such a call
 abbrev regained : ℕ → World Phase → World Phase
 regained ia w =
-    record { card = cardOf (replaced savedForm (w .card .words) (values savedForm (cardOfIa ia .words))) (w .card .memory) (w .card .pending); state = w .state; line = w .line }
+    record { card = cardOf (replaced savedForm (w .card .words) (values savedForm (cardOfIa ia .words))) (w .card .memory) (w .card .ports); state = w .state; line = w .line }
 
 abbrev wordMost : ℕ
 wordMost = wordValues - 1
@@ -149,7 +149,7 @@ unfolding called replyOf restored
 image-call ia w f s h =
     let words = words-below (cardOfIa ia .words) s in
     ap (λ r. record { card = r .card; state = w .state; line = w .line }) (read-written (cardOfIa ia) (w .card) f words h .read)
-    ∙ ap (λ vs. record { card = cardOf (replaced savedForm (w .card .words) vs) (w .card .memory) (w .card .pending); state = w .state; line = w .line }) (entriesOf-imageOf (cardOfIa ia) f words)
+    ∙ ap (λ vs. record { card = cardOf (replaced savedForm (w .card .words) vs) (w .card .memory) (w .card .ports); state = w .state; line = w .line }) (entriesOf-imageOf (cardOfIa ia) f words)
 
 -- the worlds before, between and after the two
 abbrev next : World Phase → Call → World Phase

@@ -3,3 +3,4 @@ pub mod Line
 pub mod Premise
 pub mod Demand
 pub mod InC
+pub mod Collected

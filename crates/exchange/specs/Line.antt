@@ -16,9 +16,9 @@ use Rattle.master.specs.Step.{Move, saysOf, stepOf}
 use Rattle.master.specs.declared.Verdict.{Verdict}
 use Rattle.master.specs.declared.Phase.{Phase}
 use Rattle.master.specs.declared.Phase.the-variants.{New}
+use Rattle.receive.specs.declared.Dialect.the-variants.{Datalink}
 use Rattle.calls.specs.Calls.{Call as Entry, replyOf, refused}
-use Rattle.calls.specs.Calls.Dialect.{Datalink}
-use Rattle.calls.specs.Calls.Call.{SetCode, Restart, Governor, Frame, WriteImage, ReadImage}
+use Rattle.calls.specs.Calls.Call.{SetCode, Restart, Governor, Frame, Receive, Quiet, WriteImage, ReadImage}
 use Rattle.exchange.specs.Calls.{Choice, Call}
 use Rattle.exchange.specs.Calls.Choice.{none, answer}
 use Rattle.exchange.specs.Calls.Call.{Step, Arrival, Other}
@@ -133,6 +133,8 @@ afterOther line (SetCode channel code) = line
 afterOther line Restart = afterRestart line
 afterOther line (Governor channel) = line
 afterOther line (Frame dialect room f) = line
+afterOther line (Receive dialect room bytes) = line
+afterOther line (Quiet dialect) = line
 afterOther line (WriteImage room) = line
 afterOther line (ReadImage img) = line
 

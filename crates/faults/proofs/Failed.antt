@@ -5,10 +5,10 @@ use mathlib.Core.Bool.{Bool, true, false}
 use mathlib.Core.List.{List}
 use native.Mathlib.Omega.{arith}
 use borrow.Author.Tests.{lt-ltb}
-use lib.Dec.{ltb, eqb}
+use lib.Dec.{leb, ltb, eqb}
 use lib.ListN.{length, getD}
 use Rattle.wire.specs.Choose.{choose}
-use Rattle.wire.proofs.Cases.{yes, no}
+use Rattle.wire.proofs.Cases.{yes, no, by-both}
 use Rattle.card.specs.Numbers.{answered, done, rangeUnknown, probeFault, cardUnfit, imageLength, imagePadding}
 use Rattle.card.specs.Layout.{Card, channels}
 use Rattle.card.specs.Fitness.{fit}
@@ -19,6 +19,9 @@ use Rattle.card.specs.Reply.{Reply, SameAnswer, silent}
 use Rattle.card.specs.declared.probe.Reading.{Reading}
 use Rattle.card.specs.declared.probe.Reading.the-variants.{Temperature, Fault as Unread}
 use Rattle.card.specs.declared.governor.Governor.the-variants.{Fault, Refused}
+use Rattle.receive.specs.Parts.{longestOf}
+use Rattle.receive.specs.Receive.{Receipt, collected, ready, receiveReply, quietReply}
+use Rattle.receive.specs.declared.Dialect.{Dialect}
 use Rattle.image.specs.Form.{savedForm, imageSize}
 use Rattle.image.specs.Saved.{entriesOf, paddingOf}
 use Rattle.image.specs.Ranges.{entriesRight}
@@ -77,6 +80,21 @@ restart-same : Unasked restart
 unfolding restart
 restart-same card channel code h = guarded-same card channel code _ _ (record { number = refl; bytes = refl })
 
+-- a receiver is asked for no probe
+
+receive-same : (d : Dialect) (room : ℕ) (bytes : List ℕ) → Unasked (λ card. receiveReply d card room bytes .reply)
+unfolding receiveReply ready collected withCode
+receive-same d room bytes card channel code h =
+    rw (code-fit card channel code)
+    (by-both (λ (r s : Receipt). SameAnswer (r .reply) (s .reply)) (ready card) _ _ _ _
+    (λ _. by-both (λ (r s : Receipt). SameAnswer (r .reply) (s .reply)) (leb (longestOf d) room) _ _ _ _ (λ _. record { number = refl; bytes = refl }) (λ _. record { number = refl; bytes = refl }))
+    (λ _. record { number = refl; bytes = refl }))
+
+quiet-same : (d : Dialect) → Unasked (λ card. quietReply d card)
+unfolding quietReply ready withCode
+quiet-same d card channel code h =
+    rw (code-fit card channel code) (by-both SameAnswer (ready card) _ _ _ _ (λ _. record { number = refl; bytes = refl }) (λ _. record { number = refl; bytes = refl }))
+
 write-same : (room : ℕ) → Unasked (λ card. writeImage card room)
 unfolding writeImage withCode
 write-same room card channel code h = shell-same card channel code imageSize room _ _ (record { number = refl; bytes = refl })
@@ -107,6 +125,8 @@ no-temperature =
       datalink = datalink-owes;
       setCode = set-code-same;
       restart = restart-same;
+      receive = receive-same;
+      quiet = quiet-same;
       writeImage = write-same;
       readImage = read-same;
     }

@@ -23,6 +23,8 @@ use Rattle.love.specs.Answer.{loveReply}
 use Rattle.lucid.specs.Answer.{lucidReply}
 use Rattle.datalink.specs.Frame.{addressIn}
 use Rattle.datalink.specs.Answer.{datalinkReply}
+use Rattle.receive.specs.declared.Dialect.{Dialect}
+use Rattle.receive.specs.declared.Dialect.the-variants.{Datalink}
 use Rattle.faults.specs.Dialects.{LecomFault, LecomApart, LoveFault, LucidFault, LucidApart, DatalinkFault, OtherBytes}
 use Rattle.faults.specs.NoTemperature.{Failed, GovernorOwes, Owes, Unasked, LecomOwes, LoveOwes, LucidOwes, DatalinkOwes}
 use Rattle.faults.proofs.Failed.{no-temperature}
@@ -368,6 +370,18 @@ refute-restart-number = refuted (λ b. b .restart) Unasked (λ b n. n .restart) 
 
 refute-restart-bytes : Refuted (λ b. b .restart) (λ card. sent 0 (firstCode card ∷ []) card)
 refute-restart-bytes = refuted (λ b. b .restart) Unasked (λ b n. n .restart) unasked-bytes
+
+refute-receive-number : Refuted (λ b. b .receive) (λ card d room come. silent (firstCode card) card)
+refute-receive-number = refuted (λ b. b .receive) (λ e. (d : Dialect) (room : ℕ) (come : List ℕ) → Unasked (λ card. e card d room come)) (λ b n. n .receive) (λ h. unasked-number (h Datalink 0 []))
+
+refute-receive-bytes : Refuted (λ b. b .receive) (λ card d room come. sent 0 (firstCode card ∷ []) card)
+refute-receive-bytes = refuted (λ b. b .receive) (λ e. (d : Dialect) (room : ℕ) (come : List ℕ) → Unasked (λ card. e card d room come)) (λ b n. n .receive) (λ h. unasked-bytes (h Datalink 0 []))
+
+refute-quiet-number : Refuted (λ b. b .quiet) (λ card d. silent (firstCode card) card)
+refute-quiet-number = refuted (λ b. b .quiet) (λ e. (d : Dialect) → Unasked (λ card. e card d)) (λ b n. n .quiet) (λ h. unasked-number (h Datalink))
+
+refute-quiet-bytes : Refuted (λ b. b .quiet) (λ card d. sent 0 (firstCode card ∷ []) card)
+refute-quiet-bytes = refuted (λ b. b .quiet) (λ e. (d : Dialect) → Unasked (λ card. e card d)) (λ b n. n .quiet) (λ h. unasked-bytes (h Datalink))
 
 refute-write-image-number : Refuted (λ b. b .writeImage) (λ card room. silent (firstCode card) card)
 refute-write-image-number = refuted (λ b. b .writeImage) (λ e. (room : ℕ) → Unasked (λ card. e card room)) (λ b n. n .writeImage) (λ h. unasked-number (h 293))

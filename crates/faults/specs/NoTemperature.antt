@@ -17,6 +17,8 @@ use Rattle.lecom.specs.Answer.{lecomReply}
 use Rattle.love.specs.Answer.{loveReply}
 use Rattle.lucid.specs.Answer.{lucidReply}
 use Rattle.datalink.specs.Answer.{datalinkReply}
+use Rattle.receive.specs.Receive.{receiveReply, quietReply}
+use Rattle.receive.specs.declared.Dialect.{Dialect}
 use Rattle.image.specs.Entries.{writeImage, readImage}
 use Rattle.faults.specs.Dialects.{LecomAsks, LecomFault, LecomApart, LoveAsks, LoveFault, LucidAsks, LucidFault, LucidApart, DatalinkAsks, DatalinkFault, OtherBytes}
 
@@ -29,6 +31,8 @@ pub record Entries : Type 0 where
   pub datalink : Card → ℕ → List ℕ → Reply
   pub setCode : Card → ℕ → ℕ → Reply
   pub restart : Card → Reply
+  pub receive : Card → Dialect → ℕ → List ℕ → Reply
+  pub quiet : Card → Dialect → Reply
   pub writeImage : Card → ℕ → Reply
   pub readImage : Card → List ℕ → Reply
 
@@ -43,6 +47,8 @@ asWritten =
       datalink = datalinkReply;
       setCode = setCode;
       restart = restart;
+      receive = λ card d room bytes. receiveReply d card room bytes .reply;
+      quiet = λ card d. quietReply d card;
       writeImage = writeImage;
       readImage = readImage;
     }
@@ -120,5 +126,7 @@ pub record NoTemperature (b : Entries) : Type 0 where
   pub datalink : DatalinkOwes (b .datalink)
   pub setCode : (channel code : ℕ) → Unasked (λ card. b .setCode card channel code)
   pub restart : Unasked (b .restart)
+  pub receive : (d : Dialect) (room : ℕ) (bytes : List ℕ) → Unasked (λ card. b .receive card d room bytes)
+  pub quiet : (d : Dialect) → Unasked (λ card. b .quiet card d)
   pub writeImage : (room : ℕ) → Unasked (λ card. b .writeImage card room)
   pub readImage : (img : List ℕ) → Unasked (λ card. b .readImage card img)

@@ -10,11 +10,18 @@ use Rattle.card.specs.Layout.{Card}
 use Rattle.card.specs.Governor.{governorOf, governorReply}
 use Rattle.card.specs.declared.governor.Governor.{Governor}
 use Rattle.card.specs.declared.governor.Governor.the-variants.{Degrees, Fault, Refused}
+use Rattle.receive.specs.declared.Received.{Received}
 
 -- an outcome was handed over: its number returned, and its length stored
 pub record Handed (number len number′ len′ : ℕ) : Type 0 where
   pub numbered : number′ ≡ number
   pub measured : len′ ≡ len
+
+-- a receipt was handed over: its number returned, how many bytes were taken and the frame's length stored
+pub record HandedReceipt (receipt : Received) (number taken len : ℕ) : Type 0 where
+  pub numbered : number ≡ receipt .number
+  pub counted : taken ≡ receipt .taken
+  pub measured : len ≡ receipt .len
 
 -- the governor's float: the degrees, or what was there
 abbrev pub degreesIn : Governor → Float → Float

@@ -6,6 +6,8 @@ use card::numbers::PROBE_FAULT;
 use master::Phase;
 use master::request::Kind;
 use master::request::Request;
+use receive::Dialect;
+use receive::Received;
 ghost use mathlib.Core.Path.{_≡_};
 ghost use lib.ListN.{length};
 ghost use Rattle.card.specs.Layout.{cardOf};
@@ -16,35 +18,37 @@ ghost use Rattle.datalink.specs.Answer.{datalinkReply};
 ghost use Rattle.lecom.specs.Answer.{lecomReply};
 ghost use Rattle.love.specs.Answer.{loveReply};
 ghost use Rattle.lucid.specs.Answer.{lucidReply};
+ghost use Rattle.receive.specs.Receive.{receiveReply, quietReply, Took};
+ghost use Rattle.receive.specs.declared.Dialect.the-variants.{Datalink, Lecom, Love, Lucid};
 ghost use Rattle.image.specs.Entries.{writeImage, readImage};
 ghost use Rattle.master.specs.Step.{Stepped};
-ghost use Rattle.firmware.specs.Lent.{Handed, degreesIn, HandedReading};
+ghost use Rattle.firmware.specs.Lent.{Handed, HandedReceipt, degreesIn, HandedReading};
 ghost use Rattle.firmware.specs.Phases.{codeOf, phaseOf, kindOf, requestInC, stepInC};
 
 #[no_mangle]
 pub extern "C" fn nk_set_code(
     words: &[u32],
     memory: &mut [u8],
-    pending: &[u8],
+    ports: &[u8],
     channel: u32,
     code: u8,
 ) -> u8
     ensures { λ r.
-        let before = cardOf (now (words .entry)) (now (memory .entry)) (now (pending .entry)) in
-        let after = cardOf (now (words .entry)) (now (memory .exit)) (now (pending .entry)) in
+        let before = cardOf (now (words .entry)) (now (memory .entry)) (now (ports .entry)) in
+        let after = cardOf (now (words .entry)) (now (memory .exit)) (now (ports .entry)) in
         ⌜ Did (setCode before channel code) r after ⌝ }
 {
-    card::entries::set_code(words, memory, pending, channel, code)
+    card::entries::set_code(words, memory, ports, channel, code)
 }
 
 #[no_mangle]
-pub extern "C" fn nk_restart(words: &mut [u32], memory: &mut [u8], pending: &mut [u8]) -> u8
+pub extern "C" fn nk_restart(words: &mut [u32], memory: &mut [u8], ports: &mut [u8]) -> u8
     ensures { λ r.
-        let before = cardOf (now (words .entry)) (now (memory .entry)) (now (pending .entry)) in
-        let after = cardOf (now (words .exit)) (now (memory .exit)) (now (pending .exit)) in
+        let before = cardOf (now (words .entry)) (now (memory .entry)) (now (ports .entry)) in
+        let after = cardOf (now (words .exit)) (now (memory .exit)) (now (ports .exit)) in
         ⌜ Did (restart before) r after ⌝ }
 {
-    card::entries::restart_card(words, memory, pending)
+    card::entries::restart_card(words, memory, ports)
 }
 
 // The number of a reading; degrees are stored where there are any.
@@ -65,17 +69,17 @@ fn tell(told: Governor, degrees: &mut f32) -> u8
 pub extern "C" fn nk_governor(
     words: &[u32],
     memory: &[u8],
-    pending: &[u8],
+    ports: &[u8],
     channel: u32,
     degrees: &mut f32,
 ) -> u8
     ensures { λ r.
-        let before = cardOf (now (words .entry)) (now (memory .entry)) (now (pending .entry)) in
-        let after = cardOf (now (words .entry)) (now (memory .entry)) (now (pending .entry)) in
+        let before = cardOf (now (words .entry)) (now (memory .entry)) (now (ports .entry)) in
+        let after = cardOf (now (words .entry)) (now (memory .entry)) (now (ports .entry)) in
         ⌜ HandedReading before channel (now (degrees .entry)) r after (now (degrees .exit)) ⌝ }
 {
     tell(
-        card::governor::governor_reading(words, memory, pending, channel),
+        card::governor::governor_reading(words, memory, ports, channel),
         degrees,
     )
 }
@@ -92,17 +96,17 @@ fn hand_over(given: Outcome, len: &mut usize) -> u8
 pub extern "C" fn nk_datalink(
     words: &[u32],
     memory: &mut [u8],
-    pending: &mut [u8],
+    ports: &mut [u8],
     frame: &[u8],
     answer: &mut [u8],
     len: &mut usize,
 ) -> u8
     ensures { λ r.
-        let before = cardOf (now (words .entry)) (now (memory .entry)) (now (pending .entry)) in
-        let after = cardOf (now (words .entry)) (now (memory .exit)) (now (pending .exit)) in
+        let before = cardOf (now (words .entry)) (now (memory .entry)) (now (ports .entry)) in
+        let after = cardOf (now (words .entry)) (now (memory .exit)) (now (ports .exit)) in
         ⌜ Gave (datalinkReply before (length (now (answer .entry))) (now (frame .entry))) (now (answer .entry)) (record { number = r; len = now (len .exit) }) after (now (answer .exit)) ⌝ }
 {
-    let given = datalink::datalink(words, memory, pending, frame, answer);
+    let given = datalink::datalink(words, memory, ports, frame, answer);
     hand_over(given, len)
 }
 
@@ -110,17 +114,17 @@ pub extern "C" fn nk_datalink(
 pub extern "C" fn nk_lecom(
     words: &mut [u32],
     memory: &[u8],
-    pending: &[u8],
+    ports: &[u8],
     frame: &[u8],
     answer: &mut [u8],
     len: &mut usize,
 ) -> u8
     ensures { λ r.
-        let before = cardOf (now (words .entry)) (now (memory .entry)) (now (pending .entry)) in
-        let after = cardOf (now (words .exit)) (now (memory .entry)) (now (pending .entry)) in
+        let before = cardOf (now (words .entry)) (now (memory .entry)) (now (ports .entry)) in
+        let after = cardOf (now (words .exit)) (now (memory .entry)) (now (ports .entry)) in
         ⌜ Gave (lecomReply before (length (now (answer .entry))) (now (frame .entry))) (now (answer .entry)) (record { number = r; len = now (len .exit) }) after (now (answer .exit)) ⌝ }
 {
-    let given = lecom::lecom(words, memory, pending, frame, answer);
+    let given = lecom::lecom(words, memory, ports, frame, answer);
     hand_over(given, len)
 }
 
@@ -128,17 +132,17 @@ pub extern "C" fn nk_lecom(
 pub extern "C" fn nk_love(
     words: &mut [u32],
     memory: &[u8],
-    pending: &[u8],
+    ports: &[u8],
     frame: &[u8],
     answer: &mut [u8],
     len: &mut usize,
 ) -> u8
     ensures { λ r.
-        let before = cardOf (now (words .entry)) (now (memory .entry)) (now (pending .entry)) in
-        let after = cardOf (now (words .exit)) (now (memory .entry)) (now (pending .entry)) in
+        let before = cardOf (now (words .entry)) (now (memory .entry)) (now (ports .entry)) in
+        let after = cardOf (now (words .exit)) (now (memory .entry)) (now (ports .entry)) in
         ⌜ Gave (loveReply before (length (now (answer .entry))) (now (frame .entry))) (now (answer .entry)) (record { number = r; len = now (len .exit) }) after (now (answer .exit)) ⌝ }
 {
-    let given = love::love(words, memory, pending, frame, answer);
+    let given = love::love(words, memory, ports, frame, answer);
     hand_over(given, len)
 }
 
@@ -146,50 +150,170 @@ pub extern "C" fn nk_love(
 pub extern "C" fn nk_lucid(
     words: &mut [u32],
     memory: &[u8],
-    pending: &[u8],
+    ports: &[u8],
     frame: &[u8],
     answer: &mut [u8],
     len: &mut usize,
 ) -> u8
     ensures { λ r.
-        let before = cardOf (now (words .entry)) (now (memory .entry)) (now (pending .entry)) in
-        let after = cardOf (now (words .exit)) (now (memory .entry)) (now (pending .entry)) in
+        let before = cardOf (now (words .entry)) (now (memory .entry)) (now (ports .entry)) in
+        let after = cardOf (now (words .exit)) (now (memory .entry)) (now (ports .entry)) in
         ⌜ Gave (lucidReply before (length (now (answer .entry))) (now (frame .entry))) (now (answer .entry)) (record { number = r; len = now (len .exit) }) after (now (answer .exit)) ⌝ }
 {
-    let given = lucid::lucid(words, memory, pending, frame, answer);
+    let given = lucid::lucid(words, memory, ports, frame, answer);
     hand_over(given, len)
+}
+
+// Hands a receipt over: how many bytes were taken and the frame's length are stored, and the number returned.
+fn hand_over_receipt(receipt: Received, taken: &mut usize, len: &mut usize) -> u8
+    ensures { λ r. ⌜ HandedReceipt receipt r (now (taken .exit)) (now (len .exit)) ⌝ }
+{
+    *taken = receipt.taken;
+    *len = receipt.len;
+    receipt.number
+}
+
+#[no_mangle]
+pub extern "C" fn nk_receive_datalink(
+    words: &[u32],
+    memory: &[u8],
+    ports: &mut [u8],
+    bytes: &[u8],
+    frame: &mut [u8],
+    taken: &mut usize,
+    len: &mut usize,
+) -> u8
+    ensures { λ r.
+        let before = cardOf (now (words .entry)) (now (memory .entry)) (now (ports .entry)) in
+        let after = cardOf (now (words .entry)) (now (memory .entry)) (now (ports .exit)) in
+        ⌜ Took (receiveReply Datalink before (length (now (frame .entry))) (now (bytes .entry))) (now (frame .entry)) (record { number = r; taken = now (taken .exit); len = now (len .exit) }) after (now (frame .exit)) ⌝ }
+{
+    let receipt = receive::receive(Dialect::Datalink, words, memory, ports, bytes, frame);
+    hand_over_receipt(receipt, taken, len)
+}
+
+#[no_mangle]
+pub extern "C" fn nk_receive_lecom(
+    words: &[u32],
+    memory: &[u8],
+    ports: &mut [u8],
+    bytes: &[u8],
+    frame: &mut [u8],
+    taken: &mut usize,
+    len: &mut usize,
+) -> u8
+    ensures { λ r.
+        let before = cardOf (now (words .entry)) (now (memory .entry)) (now (ports .entry)) in
+        let after = cardOf (now (words .entry)) (now (memory .entry)) (now (ports .exit)) in
+        ⌜ Took (receiveReply Lecom before (length (now (frame .entry))) (now (bytes .entry))) (now (frame .entry)) (record { number = r; taken = now (taken .exit); len = now (len .exit) }) after (now (frame .exit)) ⌝ }
+{
+    let receipt = receive::receive(Dialect::Lecom, words, memory, ports, bytes, frame);
+    hand_over_receipt(receipt, taken, len)
+}
+
+#[no_mangle]
+pub extern "C" fn nk_receive_love(
+    words: &[u32],
+    memory: &[u8],
+    ports: &mut [u8],
+    bytes: &[u8],
+    frame: &mut [u8],
+    taken: &mut usize,
+    len: &mut usize,
+) -> u8
+    ensures { λ r.
+        let before = cardOf (now (words .entry)) (now (memory .entry)) (now (ports .entry)) in
+        let after = cardOf (now (words .entry)) (now (memory .entry)) (now (ports .exit)) in
+        ⌜ Took (receiveReply Love before (length (now (frame .entry))) (now (bytes .entry))) (now (frame .entry)) (record { number = r; taken = now (taken .exit); len = now (len .exit) }) after (now (frame .exit)) ⌝ }
+{
+    let receipt = receive::receive(Dialect::Love, words, memory, ports, bytes, frame);
+    hand_over_receipt(receipt, taken, len)
+}
+
+#[no_mangle]
+pub extern "C" fn nk_receive_lucid(
+    words: &[u32],
+    memory: &[u8],
+    ports: &mut [u8],
+    bytes: &[u8],
+    frame: &mut [u8],
+    taken: &mut usize,
+    len: &mut usize,
+) -> u8
+    ensures { λ r.
+        let before = cardOf (now (words .entry)) (now (memory .entry)) (now (ports .entry)) in
+        let after = cardOf (now (words .entry)) (now (memory .entry)) (now (ports .exit)) in
+        ⌜ Took (receiveReply Lucid before (length (now (frame .entry))) (now (bytes .entry))) (now (frame .entry)) (record { number = r; taken = now (taken .exit); len = now (len .exit) }) after (now (frame .exit)) ⌝ }
+{
+    let receipt = receive::receive(Dialect::Lucid, words, memory, ports, bytes, frame);
+    hand_over_receipt(receipt, taken, len)
+}
+
+#[no_mangle]
+pub extern "C" fn nk_quiet_datalink(words: &[u32], memory: &[u8], ports: &mut [u8]) -> u8
+    ensures { λ r.
+        let before = cardOf (now (words .entry)) (now (memory .entry)) (now (ports .entry)) in
+        let after = cardOf (now (words .entry)) (now (memory .entry)) (now (ports .exit)) in
+        ⌜ Did (quietReply Datalink before) r after ⌝ }
+{
+    receive::quiet(Dialect::Datalink, words, memory, ports)
+}
+
+#[no_mangle]
+pub extern "C" fn nk_quiet_lecom(words: &[u32], memory: &[u8], ports: &mut [u8]) -> u8
+    ensures { λ r.
+        let before = cardOf (now (words .entry)) (now (memory .entry)) (now (ports .entry)) in
+        let after = cardOf (now (words .entry)) (now (memory .entry)) (now (ports .exit)) in
+        ⌜ Did (quietReply Lecom before) r after ⌝ }
+{
+    receive::quiet(Dialect::Lecom, words, memory, ports)
+}
+
+#[no_mangle]
+pub extern "C" fn nk_quiet_love(words: &[u32], memory: &[u8], ports: &mut [u8]) -> u8
+    ensures { λ r.
+        let before = cardOf (now (words .entry)) (now (memory .entry)) (now (ports .entry)) in
+        let after = cardOf (now (words .entry)) (now (memory .entry)) (now (ports .exit)) in
+        ⌜ Did (quietReply Love before) r after ⌝ }
+{
+    receive::quiet(Dialect::Love, words, memory, ports)
+}
+
+#[no_mangle]
+pub extern "C" fn nk_quiet_lucid(words: &[u32], memory: &[u8], ports: &mut [u8]) -> u8
+    ensures { λ r.
+        let before = cardOf (now (words .entry)) (now (memory .entry)) (now (ports .entry)) in
+        let after = cardOf (now (words .entry)) (now (memory .entry)) (now (ports .exit)) in
+        ⌜ Did (quietReply Lucid before) r after ⌝ }
+{
+    receive::quiet(Dialect::Lucid, words, memory, ports)
 }
 
 #[no_mangle]
 pub extern "C" fn nk_write_image(
     words: &[u32],
     memory: &[u8],
-    pending: &[u8],
+    ports: &[u8],
     image: &mut [u8],
     len: &mut usize,
 ) -> u8
     ensures { λ r.
-        let before = cardOf (now (words .entry)) (now (memory .entry)) (now (pending .entry)) in
-        let after = cardOf (now (words .entry)) (now (memory .entry)) (now (pending .entry)) in
+        let before = cardOf (now (words .entry)) (now (memory .entry)) (now (ports .entry)) in
+        let after = cardOf (now (words .entry)) (now (memory .entry)) (now (ports .entry)) in
         ⌜ Gave (writeImage before (length (now (image .entry)))) (now (image .entry)) (record { number = r; len = now (len .exit) }) after (now (image .exit)) ⌝ }
 {
-    let given = image::write_image(words, memory, pending, image);
+    let given = image::write_image(words, memory, ports, image);
     hand_over(given, len)
 }
 
 #[no_mangle]
-pub extern "C" fn nk_read_image(
-    words: &mut [u32],
-    memory: &[u8],
-    pending: &[u8],
-    image: &[u8],
-) -> u8
+pub extern "C" fn nk_read_image(words: &mut [u32], memory: &[u8], ports: &[u8], image: &[u8]) -> u8
     ensures { λ r.
-        let before = cardOf (now (words .entry)) (now (memory .entry)) (now (pending .entry)) in
-        let after = cardOf (now (words .exit)) (now (memory .entry)) (now (pending .entry)) in
+        let before = cardOf (now (words .entry)) (now (memory .entry)) (now (ports .entry)) in
+        let after = cardOf (now (words .exit)) (now (memory .entry)) (now (ports .entry)) in
         ⌜ Did (readImage before (now (image .entry))) r after ⌝ }
 {
-    image::read_image(words, memory, pending, image)
+    image::read_image(words, memory, ports, image)
 }
 
 // The line master's phases and a request's kinds as C numbers.

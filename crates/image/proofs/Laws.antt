@@ -35,6 +35,6 @@ pub read-memory : (card : Card) (img : List ℕ) → readImage card img .card .m
 unfolding restored
 read-memory card img = by-order (λ (r : Reply). r .card .memory ≡ card .memory) card img (λ n. refl) (λ _ _. refl)
 
-pub read-pending : (card : Card) (img : List ℕ) → readImage card img .card .pending ≡ card .pending
+pub read-ports : (card : Card) (img : List ℕ) → readImage card img .card .ports ≡ card .ports
 unfolding restored
-read-pending card img = by-order (λ (r : Reply). r .card .pending ≡ card .pending) card img (λ n. refl) (λ _ _. refl)
+read-ports card img = by-order (λ (r : Reply). r .card .ports ≡ card .ports) card img (λ n. refl) (λ _ _. refl)

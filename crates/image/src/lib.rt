@@ -78,13 +78,13 @@ fn pack(words: &[u32], image: &mut [u8])
 }
 
 // Writes the image of a card: document 01's number, and the bytes written.
-pub fn write_image(words: &[u32], memory: &[u8], pending: &[u8], out: &mut [u8]) -> Outcome
+pub fn write_image(words: &[u32], memory: &[u8], ports: &[u8], out: &mut [u8]) -> Outcome
     ensures { λ r.
-        let before = cardOf (now (words .entry)) (now (memory .entry)) (now (pending .entry)) in
-        let after = cardOf (now (words .entry)) (now (memory .entry)) (now (pending .entry)) in
+        let before = cardOf (now (words .entry)) (now (memory .entry)) (now (ports .entry)) in
+        let after = cardOf (now (words .entry)) (now (memory .entry)) (now (ports .entry)) in
         ⌜ Gave (writeImage before (length (now (out .entry)))) (now (out .entry)) r after (now (out .exit)) ⌝ }
 {
-    let number = card::stop_early(words, memory, pending, IMAGE, out.len());
+    let number = card::stop_early(words, memory, ports, IMAGE, out.len());
     if number != ANSWERED {
         return Outcome { number, len: 0 };
     }
@@ -151,13 +151,13 @@ fn restore(words: &mut [u32], values: &[u32])
 }
 
 // Reads an image into a card: document 01's number.
-pub fn read_image(words: &mut [u32], memory: &[u8], pending: &[u8], image: &[u8]) -> u8
+pub fn read_image(words: &mut [u32], memory: &[u8], ports: &[u8], image: &[u8]) -> u8
     ensures { λ r.
-        let before = cardOf (now (words .entry)) (now (memory .entry)) (now (pending .entry)) in
-        let after = cardOf (now (words .exit)) (now (memory .entry)) (now (pending .entry)) in
+        let before = cardOf (now (words .entry)) (now (memory .entry)) (now (ports .entry)) in
+        let after = cardOf (now (words .exit)) (now (memory .entry)) (now (ports .entry)) in
         ⌜ Did (readImage before (now (image .entry))) r after ⌝ }
 {
-    if !is_fit(words, memory, pending) {
+    if !is_fit(words, memory, ports) {
         return CARD_UNFIT;
     }
     if image.len() != IMAGE {

@@ -39,7 +39,7 @@ rest-eot : (b : ℕ) → eqb b eot ≡ true → step atRest b ≡ Kept (b ∷ []
 unfolding step bccNext among choose
 rest-eot b t = rw t
 
-sound : (part : List ℕ) (b : ℕ) → Sound step part b (step part b)
+pub sound : (part : List ℕ) (b : ℕ) → Sound step part b (step part b)
 unfolding step grown
 sound part b =
     by-choice P (bccNext part) _ _ (λ _. by-choice P (ltb (length part) longest) _ _ (λ _. refl) (λ _. tt))
@@ -200,7 +200,7 @@ next-begun x p e = rw (among-begun x p e) (go p)
     go [] = rw (apart x eot etx e (λ z. omega arith)) refl
     go (d ∷ q) = rw (last-cons etx x d q)
 
-kept : (p : List ℕ) (b : ℕ) (xs : List ℕ) → held (p ++ (b ∷ xs)) ≡ true → step p b ≡ Kept (p ++ (b ∷ []))
+pub kept : (p : List ℕ) (b : ℕ) (xs : List ℕ) → held (p ++ (b ∷ xs)) ≡ true → step p b ≡ Kept (p ++ (b ∷ []))
 unfolding step grown choose
 kept [] b xs h = rest-eot b (begun b xs h .first)
 kept (x ∷ p) b xs h =
@@ -210,9 +210,10 @@ kept (x ∷ p) b xs h =
     let room : length (x ∷ p) < longest = omega (arith, k .fits) in
     rw (next-begun x p (k .first), r .closes, r .begins, ne-eqb (length (x ∷ p)) 0 (λ e. omega arith), lt-ltb (length (x ∷ p)) longest room, among-begun x p (k .first), r .asks)
 
-on : (p : List ℕ) (b : ℕ) (q : List ℕ) → held p ≡ true → step p b ≡ Kept q → held q ≡ true
+-- a byte that is kept keeps the part frame within the rules
+pub stays-held : (p : List ℕ) (b : ℕ) (q : List ℕ) → held p ≡ true → step p b ≡ Kept q → held q ≡ true
 unfolding step grown choose
-on p b q h e = go p h (bccNext p) (eqb b eot) (ltb (length p) longest) (eqb b enq && not (among stx p)) refl refl refl refl e
+stays-held p b q h e = go p h (bccNext p) (eqb b eot) (ltb (length p) longest) (eqb b enq && not (among stx p)) refl refl refl refl e
   where
     alone : eqb b eot ≡ true → b ∷ [] ≡ q → held q ≡ true
     alone e k = subst (λ (l : List ℕ). held l ≡ true) k (held-begun b [] (record { first = e; fits = omega arith; reads = unfold heldBehindEot in refl }))
@@ -243,10 +244,16 @@ on p b q h e = go p h (bccNext p) (eqb b eot) (ltb (length p) longest) (eqb b en
             subst (λ (l : List ℕ). held l ≡ true) same
             (held-begun x (p ++ (b ∷ [])) (record { first = k .first; fits = omega arith; reads = read-more p b (k .reads) r }))
 
-pub held-leads : (part : List ℕ) → held part ≡ true → Reachable step part
+pub held-rest : held [] ≡ true
 unfolding held
-held-leads = held-reachable step sound held refl kept on
+held-rest = refl
+
+pub held-few : (p : List ℕ) → held p ≡ true → length p ≤ longest
+held-few [] h = omega arith
+held-few (x ∷ p) h = begun x p h .fits
+
+pub held-leads : (part : List ℕ) → held part ≡ true → Reachable step part
+held-leads = held-reachable step sound held held-rest kept stays-held
 
 pub leads-held : (part : List ℕ) → Reachable step part → held part ≡ true
-unfolding held
-leads-held = reachable-held step sound held refl kept on
+leads-held = reachable-held step sound held held-rest kept stays-held

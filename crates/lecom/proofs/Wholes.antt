@@ -1,6 +1,6 @@
 -- LECOM's receiver hands over every frame that is taken as a read or a write. Assumes nothing.
 use mathlib.Core.Path.{_≡_, refl, sym, ap, _∙_, subst}
-use mathlib.Core.Bool.{Bool, true, false, not}
+use mathlib.Core.Bool.{Bool, true, false}
 use mathlib.Core.List.{List, [], _∷_, _++_}
 use Prim.Native.Nat.{ℕ, zero, suc, _+_, _-_, _≤_, _<_}
 use native.Mathlib.Nat.{le-of-suc-le-suc}
@@ -27,7 +27,6 @@ use Rattle.card.specs.Numbers.{foreignAddress, frameForm, checkCharacter, range
 use Rattle.lecom.specs.Form.{shortest, longest, stx, etx, eot, enq, extendedMark, tensAt, startAt, closing}
 use Rattle.lecom.specs.Frame.{figuresRight, isWrite, codeAt, isExtended, hexAt, codeEnd, sizeRight, endRight, codeRight, namedIn, dataOf, dataRead, valueRight, dataRight, asked}
 use Rattle.lecom.specs.Receiver.{step, heldBehindStx, heldBehindEot}
-use Rattle.lecom.specs.declared.frame.Order.{Order}
 use Rattle.lecom.specs.declared.frame.Order.the-variants.{Silent, Refused}
 use Rattle.lecom.proofs.Frames.{bounds, size-holds, write-holds}
 use Rattle.lecom.proofs.Receiver.{endsIn, last-cons, held-begun, among-begun, next-begun, held-leads}

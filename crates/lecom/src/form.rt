@@ -56,7 +56,7 @@ impl Lecom {
     pub const STORE: u32 = 0x68;
 
     // Whether a frame may be n bytes long.
-    pub fn fits(n: usize) -> bool
+    pub(crate) fn fits(n: usize) -> bool
         ensures { λ r. ⌜ r ≡ lengthRight n ⌝ }
     {
         (Lecom::SHORTEST <= n) & (n <= Lecom::LONGEST)
@@ -73,7 +73,7 @@ pub enum Named {
 }
 
 // What the code of a number names. Nothing else in the card decides this.
-pub fn named_by(code: u32) -> Named
+pub(crate) fn named_by(code: u32) -> Named
     ensures { λ r. ⌜ r ≡ namedBy code ⌝ }
 {
     if code <= Lecom::LAST_REGISTER {
@@ -91,7 +91,7 @@ pub fn named_by(code: u32) -> Named
     Named::Nothing
 }
 
-pub fn is_known(named: Named) -> bool
+pub(crate) fn is_known(named: Named) -> bool
     ensures { λ r. ⌜ r ≡ known named ⌝ }
 {
     match named {
@@ -103,7 +103,7 @@ pub fn is_known(named: Named) -> bool
     }
 }
 
-pub fn is_writable(named: Named) -> bool
+pub(crate) fn is_writable(named: Named) -> bool
     ensures { λ r. ⌜ r ≡ writable named ⌝ }
 {
     match named {
@@ -129,7 +129,7 @@ fn is_free(named: Named) -> bool
 }
 
 // Whether what is named takes a value.
-pub fn is_taken(named: Named, value: u32) -> bool
+pub(crate) fn is_taken(named: Named, value: u32) -> bool
     ensures { λ r. ⌜ r ≡ takes named value ⌝ }
 {
     is_free(named) | (value <= 1)

@@ -15,7 +15,7 @@ pub const ROOM_MOST: usize = 1_024;
 // The buffer of the answer line: peek memory fills most of it.
 pub const ANSWER_MOST: usize = 65_536;
 
-// The length of no answer: the words after a known first word do not fit.
-pub const UNREAD: usize = 0;
+// Stands for an answer's length where the words after a known first word do not fit. No answer is as long: its line feed needs room too.
+pub const UNREAD: usize = ANSWER_MOST;
 
 pub const LINE_FEED: u8 = b'\n';

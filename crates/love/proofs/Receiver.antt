@@ -1,6 +1,6 @@
 -- Love's receiver: which part frames it can hold, and frames that it hands over. Assumes nothing.
 use mathlib.Core.Path.{_≡_, refl, subst}
-use mathlib.Core.Bool.{Bool, true, false, _||_, not}
+use mathlib.Core.Bool.{Bool, true, false, not}
 use mathlib.Core.List.{List, [], _∷_, _++_}
 use mathlib.Core.Logic._⊎_.{inl, inr}
 use Prim.{tt}
@@ -35,7 +35,7 @@ rest-stx : (b : ℕ) → eqb b stx ≡ true → step atRest b ≡ Kept (b ∷ []
 unfolding step choose
 rest-stx b t = rw t
 
-sound : (part : List ℕ) (b : ℕ) → Sound step part b (step part b)
+pub sound : (part : List ℕ) (b : ℕ) → Sound step part b (step part b)
 unfolding step grown
 sound part b =
     by-choice P (eqb b stx) _ _ (λ t. inr (refl, rest-stx b t))
@@ -63,7 +63,7 @@ held-begun : (x : ℕ) (p : List ℕ) → Begun x p → held (x ∷ p) ≡ true
 unfolding held
 held-begun x p k = rw (k .first, le-leb (length (x ∷ p)) longest (k .fits), k .no-stx, k .no-etx)
 
-kept : (p : List ℕ) (b : ℕ) (xs : List ℕ) → held (p ++ (b ∷ xs)) ≡ true → step p b ≡ Kept (p ++ (b ∷ []))
+pub kept : (p : List ℕ) (b : ℕ) (xs : List ℕ) → held (p ++ (b ∷ xs)) ≡ true → step p b ≡ Kept (p ++ (b ∷ []))
 unfolding step grown choose
 kept [] b xs h = rest-stx b (begun b xs h .first)
 kept (x ∷ p) b xs h =
@@ -71,9 +71,10 @@ kept (x ∷ p) b xs h =
     let n = length-append p (b ∷ xs) in
     rw (among-at stx p b xs (k .no-stx), ne-eqb (length (x ∷ p)) 0 (λ e. omega arith), lt-ltb (length (x ∷ p)) longest (omega (arith, k .fits)), among-at etx p b xs (k .no-etx))
 
-on : (p : List ℕ) (b : ℕ) (q : List ℕ) → held p ≡ true → step p b ≡ Kept q → held q ≡ true
+-- a byte that is kept keeps the part frame within the rules
+pub stays-held : (p : List ℕ) (b : ℕ) (q : List ℕ) → held p ≡ true → step p b ≡ Kept q → held q ≡ true
 unfolding step grown choose
-on p b q h e = go p h (eqb b stx) (ltb (length p) longest) (eqb b etx) refl refl refl e
+stays-held p b q h e = go p h (eqb b stx) (ltb (length p) longest) (eqb b etx) refl refl refl e
   where
     go : (p : List ℕ) → held p ≡ true → (s r a : Bool) → eqb b stx ≡ s → ltb (length p) longest ≡ r → eqb b etx ≡ a
         → choose s (Kept (b ∷ [])) (choose (eqb (length p) 0) Dropped (choose r (choose a (Finished (p ++ (b ∷ []))) (Kept (p ++ (b ∷ [])))) Dropped)) ≡ Kept q → held q ≡ true
@@ -96,13 +97,19 @@ on p b q h e = go p h (eqb b stx) (ltb (length p) longest) (eqb b etx) refl refl
             subst (λ (l : List ℕ). held l ≡ true) same
             (held-begun x (p ++ (b ∷ [])) (record { first = k .first; fits = omega arith; no-stx = among-more stx p b (k .no-stx) es; no-etx = among-more etx p b (k .no-etx) ea }))
 
-pub held-leads : (part : List ℕ) → held part ≡ true → Reachable step part
+pub held-rest : held [] ≡ true
 unfolding held
-held-leads = held-reachable step sound held refl kept on
+held-rest = refl
+
+pub held-few : (p : List ℕ) → held p ≡ true → length p ≤ longest
+held-few [] h = omega arith
+held-few (x ∷ p) h = begun x p h .fits
+
+pub held-leads : (part : List ℕ) → held part ≡ true → Reachable step part
+held-leads = held-reachable step sound held held-rest kept stays-held
 
 pub leads-held : (part : List ℕ) → Reachable step part → held part ≡ true
-unfolding held
-leads-held = reachable-held step sound held refl kept on
+leads-held = reachable-held step sound held held-rest kept stays-held
 
 -- STX, bytes other than STX and ETX, ETX
 pub whole-plain : (x : ℕ) (p : List ℕ) → eqb x stx ≡ true → among stx p ≡ false → among etx p ≡ false → length (x ∷ p) < longest → Whole step (x ∷ (p ++ (etx ∷ [])))

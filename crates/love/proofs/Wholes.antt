@@ -1,6 +1,6 @@
 -- Love's receiver hands over every frame that is taken. Assumes nothing.
 use mathlib.Core.Path.{_≡_, refl, sym, ap, _∙_, subst}
-use mathlib.Core.Bool.{Bool, true, false, not}
+use mathlib.Core.Bool.{true, false, not}
 use mathlib.Core.List.{List, [], _∷_, _++_}
 use Prim.Native.Nat.{ℕ, zero, suc, _+_, _-_, _/_, _≤_, _<_}
 use native.Mathlib.Decide.{decLt}
@@ -9,24 +9,21 @@ use borrow.Author.Tests.{eqb-true, ne-eqb}
 use lib.Dec.{eqb}
 use lib.ListN.{length, getD, length-append, List·getD-append}
 use lib.Seq.{getD-append-seam}
-use Rattle.wire.specs.Choose.{choose}
 use Rattle.wire.specs.Buffer.{part}
 use Rattle.wire.specs.Sum.{sumOf}
-use Rattle.wire.proofs.Buffers.{length-part, getD-part}
 use Rattle.wire.proofs.Cases.{passed}
 use Rattle.wire.proofs.Lengths.{between-facts}
 use Rattle.wire.proofs.Tests.{and-true}
 use Rattle.receiver.specs.Step.{among}
 use Rattle.receiver.specs.Line.{Whole}
 use Rattle.receiver.proofs.Reach.{snoc}
-use Rattle.figures.specs.Figure.{upperHex, hex, none, noByte, allFigures, pairByte, zeroChar}
+use Rattle.figures.specs.Figure.{upperHex, hex, noByte, allFigures, pairByte, zeroChar}
 use Rattle.figures.proofs.Characters.{pair-figures, all-above, part-above}
 use Rattle.card.specs.Fitness.{loveHundred}
 use Rattle.card.specs.Numbers.{foreignAddress, frameForm, checkCharacter}
 use Rattle.love.specs.Form.{shortest, longest, stx, etx, filterAt, addressAt, dataAt, tail, letters, filterOf, checksumError, illegalCharacter}
 use Rattle.love.specs.Frame.{dataOf, forUnit, checksumRight, asked}
 use Rattle.love.specs.Receiver.{step}
-use Rattle.love.specs.declared.frame.Order.{Order}
 use Rattle.love.specs.declared.frame.Order.the-variants.{Silent, Refused}
 use Rattle.love.proofs.Receiver.{whole-plain}
 

@@ -89,6 +89,6 @@ obeyed words memory Probe = record { number = answered; bytes = normalReply (add
 obeyed words memory (Read k) = record { number = answered; bytes = normalReply (addressOf words) (valueData (getD words (loveAt + k) 0)); words = words }
 obeyed words memory (Write k word) = record { number = answered; bytes = normalReply (addressOf words) writtenData; words = set words (loveAt + k) word }
 
--- what the card gives for a Love frame: memory and the pending change are as they were
+-- what the card gives for a Love frame: memory and the port's row are as they were
 unfoldable pub loveReply : Card → ℕ → List ℕ → Reply
 loveReply card room f = shell roomLeast card room (onWords card (obeyed (card .words) (card .memory) (asked (addressOf (card .words)) f)))

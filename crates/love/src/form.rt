@@ -78,14 +78,14 @@ impl Love {
     pub const OUT_OF_RANGE: u8 = 0x06;
 
     // Whether a frame may be n bytes long.
-    pub fn fits(n: usize) -> bool
+    pub(crate) fn fits(n: usize) -> bool
         ensures { λ r. ⌜ r ≡ lengthRight n ⌝ }
     {
         (Love::SHORTEST <= n) & (n <= Love::LONGEST)
     }
 
     // The filter character: one of the four letters, by the address's hundreds.
-    pub fn filter(address: u32) -> u8
+    pub(crate) fn filter(address: u32) -> u8
         requires { ⌜ address ≤ loveAddressMost ⌝ }
         ensures { λ r. ⌜ r ≡ filterOf address ⌝ }
     {

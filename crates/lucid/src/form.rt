@@ -86,14 +86,14 @@ impl Lucid {
     pub const ERR_EXECUTION: u8 = 0xD0;
 
     // Whether a frame may have n bytes.
-    pub fn fits(n: usize) -> bool
+    pub(crate) fn fits(n: usize) -> bool
         ensures { λ r. ⌜ r ≡ lengthRight n ⌝ }
     {
         (Lucid::SHORTEST <= n) & (n <= Lucid::LONGEST)
     }
 
     // How many bytes a value of a type has.
-    pub fn size(value_type: u8) -> u8
+    pub(crate) fn size(value_type: u8) -> u8
         ensures { λ r. ⌜ (r ≡ sizeOf «value_type») × (r ≤ hundredthsSize) ⌝ }
     {
         if value_type == Lucid::DEMAND {

@@ -1,6 +1,6 @@
 // What a LucidControl frame asks: document 01's order, a test and its refusal at a time.
 use crate::form::Lucid;
-use card::change::address;
+use card::change::two_bytes;
 use card::fitness::in_range;
 use card::layout::CHANNELS;
 use card::layout::PARAMETERS;
@@ -173,7 +173,7 @@ pub(crate) fn pair(f: &[u8], at: usize) -> u32
 {
     let low = f[at];
     let high = f[at + 1];
-    address(low, high) as u32
+    two_bytes(low, high) as u32
 }
 
 // The value of a frame that has one.

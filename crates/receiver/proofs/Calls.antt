@@ -98,7 +98,7 @@ module _ (step : Step) where
           inr (record { before = []; last = b; after = bytes; frame = f; split = refl; taken = rw e refl; none-before = refl; finished = e; handed = rw e refl; left = rw e refl })
 
   -- a call takes a byte at least, where one is lent, and no more than are lent
-  takes : (bytes part : List ℕ) → (collect step part bytes .taken ≤ length bytes) × (0 < length bytes → 0 < collect step part bytes .taken)
+  pub takes : (bytes part : List ℕ) → (collect step part bytes .taken ≤ length bytes) × (0 < length bytes → 0 < collect step part bytes .taken)
   unfolding collect onward counted
   takes [] part = (omega arith, λ h. h)
   takes (b ∷ bytes) part = go (step part b) (λ q. takes bytes q)

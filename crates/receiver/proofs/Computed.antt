@@ -2,7 +2,8 @@
 use Prim.{Unit, tt}
 use Rattle.receiver.specs.Step.{among, grown}
 use Rattle.receiver.specs.Line.{counted, onward, collect, along, heard, run, asBytes, took, lendRest, joined}
+use Rattle.receiver.specs.Store.{storing, stored}
 
 unfoldable pub computed : Unit {0}
-unfolding among grown counted onward collect along heard run asBytes took lendRest joined
+unfolding among grown counted onward collect along heard run asBytes took lendRest joined storing stored
 computed = tt

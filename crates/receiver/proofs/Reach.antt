@@ -12,13 +12,13 @@ use Rattle.receiver.specs.Line.{Collected, counted, onward, collect, Rea
 
 module _ (step : Step) where
   -- bytes that finish no frame, and more behind them
-  abbrev shifted : ℕ → Collected → Collected
+  abbrev pub shifted : ℕ → Collected → Collected
   shifted n c = record { taken = n + c .taken; handed = c .handed; part = c .part }
 
-  abbrev Feed : List ℕ → List ℕ → List ℕ → Type 0
+  abbrev pub Feed : List ℕ → List ℕ → List ℕ → Type 0
   Feed part xs ys = collect step part xs .handed ≡ [] → collect step part (xs ++ ys) ≡ shifted (length xs) (collect step (collect step part xs .part) ys)
 
-  feed : (xs ys part : List ℕ) → Feed part xs ys
+  pub feed : (xs ys part : List ℕ) → Feed part xs ys
   unfolding collect onward counted
   feed [] ys part h = let z : 0 + collect step part ys .taken ≡ collect step part ys .taken = omega arith in λ i. record { taken = sym z i; handed = collect step part ys .handed; part = collect step part ys .part }
   feed (b ∷ xs) ys part h = go (step part b) refl (λ q. feed xs ys q) h

@@ -1,2 +1,4 @@
 pub mod Step
+pub mod Place
 pub mod Line
+pub mod Store

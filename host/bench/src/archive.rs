@@ -1,9 +1,10 @@
 //! The firmware library as C sees it (include/nakshvilor.h), and the tables that are lent to it.
 
-use reference::card::{by_channel, Card, PENDING_NONE};
+use reference::card::{by_channel, Card, Part, Pending, PENDING_NONE};
 
-/// Elements of the words and of the pending change.
+/// Elements of the words, of the port's row, and of the pending change at its front.
 const WORDS: usize = 315;
+const PORTS: usize = 398;
 const PENDING: usize = 36;
 /// Bytes of the pending change before its data: kind, NUM, low address, high address.
 const PENDING_HEAD: usize = 4;
@@ -12,7 +13,18 @@ const PENDING_HEAD: usize = 4;
 pub struct Tables {
     pub words: Vec<u32>,
     pub memory: Vec<u8>,
-    pub pending: Vec<u8>,
+    pub ports: Vec<u8>,
+}
+
+/// A pending change as it stands in the row.
+fn pending_bytes(pending: &Pending) -> Vec<u8> {
+    let [low, high] = pending.address.to_le_bytes();
+    [&[pending.kind, pending.num, low, high][..], &pending.data].concat()
+}
+
+/// A part frame as it stands in the row: how many bytes it has, then room for all.
+fn part_bytes<const LONGEST: usize>(part: &Part<LONGEST>) -> Vec<u8> {
+    [&part.count.to_le_bytes()[..], &part.bytes].concat()
 }
 
 impl Tables {
@@ -26,25 +38,31 @@ impl Tables {
         for copy in [&card.buffer, &card.operational, &card.saved] {
             words.extend(copy.map(|value| value as u32));
         }
-        let [low, high] = card.pending.address.to_le_bytes();
-        let mut pending = vec![card.pending.kind, card.pending.num, low, high];
-        pending.extend(card.pending.data);
-        assert_eq!((words.len(), pending.len()), (WORDS, PENDING));
+        let ports = [
+            pending_bytes(&card.ports.pending),
+            part_bytes(&card.ports.datalink),
+            part_bytes(&card.ports.lecom),
+            part_bytes(&card.ports.love),
+            part_bytes(&card.ports.lucid),
+        ]
+        .concat();
+        assert_eq!((words.len(), ports.len()), (WORDS, PORTS));
         Self {
             words,
             memory: card.memory.to_vec(),
-            pending,
+            ports,
         }
     }
 
     /// Whether these are the card's tables; bytes of a pending change that mean nothing are not looked at.
     pub fn are_of(&self, card: &Card) -> bool {
         let other = Self::of(card);
-        let meant = match card.pending.kind {
+        let meant = match card.ports.pending.kind {
             PENDING_NONE => 1,
-            _ => PENDING_HEAD + usize::from(card.pending.num),
+            _ => PENDING_HEAD + usize::from(card.ports.pending.num),
         };
-        self.words == other.words && self.memory == other.memory && self.pending[..meant] == other.pending[..meant]
+        let same_row = |from, to| self.ports[from..to] == other.ports[from..to];
+        self.words == other.words && self.memory == other.memory && same_row(0, meant) && same_row(PENDING, PORTS)
     }
 }
 
@@ -57,8 +75,8 @@ macro_rules! entries {
                 words_count: usize,
                 memory: *mut u8,
                 memory_count: usize,
-                pending: *mut u8,
-                pending_count: usize,
+                ports: *mut u8,
+                ports_count: usize,
                 $($argument: $type),*
             ) -> u8;)*
         }
@@ -73,6 +91,14 @@ entries! {
     nk_lecom(frame: *const u8, frame_count: usize, answer: *mut u8, answer_count: usize, len: *mut usize);
     nk_love(frame: *const u8, frame_count: usize, answer: *mut u8, answer_count: usize, len: *mut usize);
     nk_lucid(frame: *const u8, frame_count: usize, answer: *mut u8, answer_count: usize, len: *mut usize);
+    nk_receive_datalink(bytes: *const u8, bytes_count: usize, frame: *mut u8, frame_count: usize, taken: *mut usize, len: *mut usize);
+    nk_receive_lecom(bytes: *const u8, bytes_count: usize, frame: *mut u8, frame_count: usize, taken: *mut usize, len: *mut usize);
+    nk_receive_love(bytes: *const u8, bytes_count: usize, frame: *mut u8, frame_count: usize, taken: *mut usize, len: *mut usize);
+    nk_receive_lucid(bytes: *const u8, bytes_count: usize, frame: *mut u8, frame_count: usize, taken: *mut usize, len: *mut usize);
+    nk_quiet_datalink();
+    nk_quiet_lecom();
+    nk_quiet_love();
+    nk_quiet_lucid();
     nk_write_image(image: *mut u8, image_count: usize, len: *mut usize);
     nk_read_image(image: *const u8, image_count: usize);
 }

@@ -3,72 +3,60 @@
 use reference::card::{governor, restart, set_probe, Card, Governor};
 use reference::master::{step, Master, Order, Request as MasterRequest, Says};
 use reference::numbers::{Number, Reply};
+use reference::receivers::{self, Received};
 
 use crate::archive::{self, Tables};
 
 /// Room for every answer and for an image.
 const ROOM: usize = 320;
 
-/// The entries.
-#[derive(Clone, Copy, PartialEq, Eq, Hash)]
-pub enum Entry {
-    SetCode,
-    Restart,
-    Governor,
-    Datalink,
-    Lecom,
-    Love,
-    Lucid,
-    WriteImage,
-    ReadImage,
-    Step,
+/// The entries, each with its function in the library.
+macro_rules! entries {
+    ($($entry:ident: $function:ident,)*) => {
+        #[derive(Clone, Copy, PartialEq, Eq, Hash)]
+        pub enum Entry {
+            $($entry),*
+        }
+
+        impl Entry {
+            pub const ALL: &[Self] = &[$(Self::$entry),*];
+
+            /// The function's name.
+            pub fn symbol(self) -> &'static str {
+                match self {
+                    $(Self::$entry => stringify!($function)),*
+                }
+            }
+
+            /// Where its code is.
+            pub fn address(self) -> usize {
+                match self {
+                    $(Self::$entry => archive::$function as *const () as usize),*
+                }
+            }
+        }
+    };
 }
 
-impl Entry {
-    pub const ALL: [Self; 10] = [
-        Self::SetCode,
-        Self::Restart,
-        Self::Governor,
-        Self::Datalink,
-        Self::Lecom,
-        Self::Love,
-        Self::Lucid,
-        Self::WriteImage,
-        Self::ReadImage,
-        Self::Step,
-    ];
-
-    /// The entry's name in the library.
-    pub fn symbol(self) -> &'static str {
-        match self {
-            Self::SetCode => "nk_set_code",
-            Self::Restart => "nk_restart",
-            Self::Governor => "nk_governor",
-            Self::Datalink => "nk_datalink",
-            Self::Lecom => "nk_lecom",
-            Self::Love => "nk_love",
-            Self::Lucid => "nk_lucid",
-            Self::WriteImage => "nk_write_image",
-            Self::ReadImage => "nk_read_image",
-            Self::Step => "nk_step",
-        }
-    }
-
-    /// Where the entry's code is.
-    pub fn address(self) -> usize {
-        match self {
-            Self::SetCode => archive::nk_set_code as *const () as usize,
-            Self::Restart => archive::nk_restart as *const () as usize,
-            Self::Governor => archive::nk_governor as *const () as usize,
-            Self::Datalink => archive::nk_datalink as *const () as usize,
-            Self::Lecom => archive::nk_lecom as *const () as usize,
-            Self::Love => archive::nk_love as *const () as usize,
-            Self::Lucid => archive::nk_lucid as *const () as usize,
-            Self::WriteImage => archive::nk_write_image as *const () as usize,
-            Self::ReadImage => archive::nk_read_image as *const () as usize,
-            Self::Step => archive::nk_step as *const () as usize,
-        }
-    }
+entries! {
+    SetCode: nk_set_code,
+    Restart: nk_restart,
+    Governor: nk_governor,
+    Datalink: nk_datalink,
+    Lecom: nk_lecom,
+    Love: nk_love,
+    Lucid: nk_lucid,
+    ReceiveDatalink: nk_receive_datalink,
+    ReceiveLecom: nk_receive_lecom,
+    ReceiveLove: nk_receive_love,
+    ReceiveLucid: nk_receive_lucid,
+    QuietDatalink: nk_quiet_datalink,
+    QuietLecom: nk_quiet_lecom,
+    QuietLove: nk_quiet_love,
+    QuietLucid: nk_quiet_lucid,
+    WriteImage: nk_write_image,
+    ReadImage: nk_read_image,
+    Step: nk_step,
 }
 
 /// A call: an entry and its arguments, as far as it has them.
@@ -76,7 +64,7 @@ pub struct Request {
     pub entry: Entry,
     pub channel: u32,
     pub code: u8,
-    /// The frame, the image to read, or the bytes or masks that the master sends.
+    /// The frame, the bytes that come, the image to read, or the bytes or masks that the master sends.
     pub bytes: Vec<u8>,
     pub ask: Ask,
 }
@@ -123,6 +111,7 @@ pub struct Bed {
     pub answer: Vec<u8>,
     pub number: u8,
     pub len: usize,
+    pub taken: usize,
     pub degrees: f32,
     pub phase: u8,
     pub master: Master,
@@ -136,6 +125,7 @@ impl Bed {
             answer: vec![0; ROOM],
             number: 0,
             len: 0,
+            taken: 0,
             degrees: 0.0,
             phase: archive::NEW,
             master: Master::new(),
@@ -169,7 +159,7 @@ fn bare(_: &mut Bed, _: &Request) {}
 /// Calls an entry of the library with the bed's tables before the arguments given.
 macro_rules! lent {
     ($name:ident, $bed:ident, $($argument:expr),*) => {{
-        let Tables { words, memory, pending } = &mut $bed.tables;
+        let Tables { words, memory, ports } = &mut $bed.tables;
         // The pointers and counts are those of live vectors that do not overlap, as the header asks.
         unsafe {
             archive::$name(
@@ -177,8 +167,8 @@ macro_rules! lent {
                 words.len(),
                 memory.as_mut_ptr(),
                 memory.len(),
-                pending.as_mut_ptr(),
-                pending.len(),
+                ports.as_mut_ptr(),
+                ports.len(),
                 $($argument),*
             )
         }
@@ -203,6 +193,34 @@ macro_rules! archive_dialect {
     };
 }
 
+/// The thunk of a receiver's entry in the library.
+macro_rules! archive_receiver {
+    ($name:ident) => {
+        |bed: &mut Bed, request: &Request| {
+            let (bytes, frame) = (&request.bytes, &mut bed.answer);
+            bed.number = lent!(
+                $name,
+                bed,
+                bytes.as_ptr(),
+                bytes.len(),
+                frame.as_mut_ptr(),
+                frame.len(),
+                &mut bed.taken,
+                &mut bed.len
+            );
+        }
+    };
+}
+
+/// The thunk of an entry in the library that is told of a quiet line.
+macro_rules! archive_quiet {
+    ($name:ident) => {
+        |bed: &mut Bed, _: &Request| {
+            bed.number = lent!($name, bed,);
+        }
+    };
+}
+
 fn archive_thunk(entry: Entry) -> Thunk {
     match entry {
         Entry::SetCode => |bed, request| {
@@ -218,6 +236,14 @@ fn archive_thunk(entry: Entry) -> Thunk {
         Entry::Lecom => archive_dialect!(nk_lecom),
         Entry::Love => archive_dialect!(nk_love),
         Entry::Lucid => archive_dialect!(nk_lucid),
+        Entry::ReceiveDatalink => archive_receiver!(nk_receive_datalink),
+        Entry::ReceiveLecom => archive_receiver!(nk_receive_lecom),
+        Entry::ReceiveLove => archive_receiver!(nk_receive_love),
+        Entry::ReceiveLucid => archive_receiver!(nk_receive_lucid),
+        Entry::QuietDatalink => archive_quiet!(nk_quiet_datalink),
+        Entry::QuietLecom => archive_quiet!(nk_quiet_lecom),
+        Entry::QuietLove => archive_quiet!(nk_quiet_love),
+        Entry::QuietLucid => archive_quiet!(nk_quiet_lucid),
         Entry::WriteImage => |bed, _| {
             let image = &mut bed.answer;
             bed.number = lent!(nk_write_image, bed, image.as_mut_ptr(), image.len(), &mut bed.len);
@@ -272,6 +298,14 @@ called! {
     second_lecom(card: &mut Card, frame: &[u8], answer: &mut [u8]) -> Reply = reference::lecom::lecom;
     second_love(card: &mut Card, frame: &[u8], answer: &mut [u8]) -> Reply = reference::love::love;
     second_lucid(card: &mut Card, frame: &[u8], answer: &mut [u8]) -> Reply = reference::lucid::lucid;
+    second_receive_datalink(card: &mut Card, bytes: &[u8], frame: &mut [u8]) -> Received = receivers::receive_datalink;
+    second_receive_lecom(card: &mut Card, bytes: &[u8], frame: &mut [u8]) -> Received = receivers::receive_lecom;
+    second_receive_love(card: &mut Card, bytes: &[u8], frame: &mut [u8]) -> Received = receivers::receive_love;
+    second_receive_lucid(card: &mut Card, bytes: &[u8], frame: &mut [u8]) -> Received = receivers::receive_lucid;
+    second_quiet_datalink(card: &mut Card) -> Number = receivers::quiet_datalink;
+    second_quiet_lecom(card: &mut Card) -> Number = receivers::quiet_lecom;
+    second_quiet_love(card: &mut Card) -> Number = receivers::quiet_love;
+    second_quiet_lucid(card: &mut Card) -> Number = receivers::quiet_lucid;
     second_write_image(card: &Card, image: &mut [u8]) -> Reply = reference::image::save;
     second_read_image(card: &mut Card, image: &[u8]) -> Number = reference::image::load;
     second_master(master: &mut Master, request: &MasterRequest, answer: Option<&[u8]>, frame: &mut [u8]) -> Reply = step;
@@ -284,6 +318,25 @@ macro_rules! second_dialect {
             let reply = $name(&mut bed.card, &request.bytes, &mut bed.answer);
             keep(bed, reply);
         }
+    };
+}
+
+/// The thunk of a receiver's entry in the second program.
+macro_rules! second_receiver {
+    ($name:ident) => {
+        |bed: &mut Bed, request: &Request| {
+            let received = $name(&mut bed.card, &request.bytes, &mut bed.answer);
+            bed.number = received.number as u8;
+            bed.taken = received.taken;
+            bed.len = received.length;
+        }
+    };
+}
+
+/// The thunk of an entry in the second program that is told of a quiet line.
+macro_rules! second_quiet {
+    ($name:ident) => {
+        |bed: &mut Bed, _: &Request| bed.number = $name(&mut bed.card) as u8
     };
 }
 
@@ -307,6 +360,14 @@ fn second_thunk(entry: Entry) -> Thunk {
         Entry::Lecom => second_dialect!(second_lecom),
         Entry::Love => second_dialect!(second_love),
         Entry::Lucid => second_dialect!(second_lucid),
+        Entry::ReceiveDatalink => second_receiver!(second_receive_datalink),
+        Entry::ReceiveLecom => second_receiver!(second_receive_lecom),
+        Entry::ReceiveLove => second_receiver!(second_receive_love),
+        Entry::ReceiveLucid => second_receiver!(second_receive_lucid),
+        Entry::QuietDatalink => second_quiet!(second_quiet_datalink),
+        Entry::QuietLecom => second_quiet!(second_quiet_lecom),
+        Entry::QuietLove => second_quiet!(second_quiet_love),
+        Entry::QuietLucid => second_quiet!(second_quiet_lucid),
         Entry::WriteImage => |bed, _| {
             let reply = second_write_image(&bed.card, &mut bed.answer);
             keep(bed, reply);
@@ -333,12 +394,12 @@ fn keep(bed: &mut Bed, reply: Reply) {
     bed.len = reply.length;
 }
 
-/// What a call gives, from empty buffers: number, length, the whole answer buffer, degrees.
-fn given(side: Side, bed: &mut Bed, request: &Request) -> (u8, usize, Vec<u8>, f32) {
-    (bed.len, bed.degrees) = (0, 0.0);
+/// What a call gives, from empty buffers: number, length, bytes taken, the whole answer buffer, degrees.
+fn given(side: Side, bed: &mut Bed, request: &Request) -> (u8, usize, usize, Vec<u8>, f32) {
+    (bed.len, bed.taken, bed.degrees) = (0, 0, 0.0);
     bed.answer.fill(0);
     thunk(side, request.entry)(bed, request);
-    (bed.number, bed.len, bed.answer.clone(), bed.degrees)
+    (bed.number, bed.len, bed.taken, bed.answer.clone(), bed.degrees)
 }
 
 /// Makes a call on both sides of a bed and panics unless they agree in all they give and in their tables.

@@ -10,6 +10,12 @@ pub const ACKNOWLEDGE: [u8; 2] = [0x7E, 0x83];
 pub const FOREIGN_INTERROGATE: u8 = 0xE4;
 pub const FOREIGN_RESPONSE: u8 = 0x24;
 
+/// The characters that LECOM and Love begin and end with.
+pub const STX: u8 = 0x02;
+pub const ETX: u8 = 0x03;
+pub const EOT: u8 = 0x04;
+pub const ENQ: u8 = 0x05;
+
 fn sum(bytes: &[u8]) -> u8 {
     bytes.iter().fold(0, |sum, &byte| sum.wrapping_add(byte))
 }
@@ -36,14 +42,14 @@ pub fn change(command: u8, address: u16, num: u8) -> Vec<u8> {
 
 /// A LECOM read of a code.
 pub fn lecom_read(unit: &str, code: &str) -> Vec<u8> {
-    [b"\x04", unit.as_bytes(), code.as_bytes(), b"\x05"].concat()
+    [&[EOT], unit.as_bytes(), code.as_bytes(), &[ENQ]].concat()
 }
 
 /// A LECOM write of data to a code.
 pub fn lecom_write(unit: &str, code: &str, data: &str) -> Vec<u8> {
-    let checked = [code.as_bytes(), data.as_bytes(), b"\x03"].concat();
+    let checked = [code.as_bytes(), data.as_bytes(), &[ETX]].concat();
     let bcc = checked.iter().fold(0, |bcc, &character| bcc ^ character);
-    [b"\x04", unit.as_bytes(), b"\x02", &checked, &[bcc]].concat()
+    [&[EOT], unit.as_bytes(), &[STX], &checked, &[bcc]].concat()
 }
 
 /// A Love frame to a filter and address.
@@ -51,7 +57,7 @@ pub fn love(unit: &str, data: &str) -> Vec<u8> {
     let (filter, address) = unit.split_at(1);
     let checked = [address.as_bytes(), data.as_bytes()].concat();
     let checksum = format!("{:02X}", sum(&checked));
-    [b"\x02", filter.as_bytes(), &checked, checksum.as_bytes(), b"\x03"].concat()
+    [&[STX], filter.as_bytes(), &checked, checksum.as_bytes(), &[ETX]].concat()
 }
 
 /// A LucidControl frame.

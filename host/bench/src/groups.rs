@@ -9,6 +9,7 @@ use crate::frames::{
     change, datalink, interrogate, lecom_read, lecom_write, love, lucid, ACKNOWLEDGE, CHANGE, CHANGE_BITS,
     FOREIGN_INTERROGATE, FOREIGN_RESPONSE, RESPONSE,
 };
+use crate::receivers::{self, Receiver};
 
 /// A call under a name.
 pub struct Case {
@@ -28,40 +29,46 @@ pub enum Start {
     Busy,
     /// The busy card with the longest pending change.
     Pending,
+    /// The same, and every receiver has the longest part frame.
+    Full,
     /// The busy card, of which the library gets no words at all, so that it refuses at once.
     Wordless,
 }
 
 /// Calls that are made one after the other on one card.
 pub struct Group {
-    pub name: &'static str,
+    pub name: String,
     pub start: Start,
     pub cases: Vec<Case>,
 }
 
 impl Group {
-    fn new(name: &'static str, cases: Vec<Case>) -> Self {
+    pub fn new(name: impl Into<String>, cases: Vec<Case>) -> Self {
         Self {
-            name,
+            name: name.into(),
             start: Start::Busy,
             cases,
         }
     }
 
-    fn from(self, start: Start) -> Self {
+    pub fn from(self, start: Start) -> Self {
         Self { start, ..self }
     }
 
     /// The card that the calls start from, on both sides.
     pub fn bed(&self) -> Bed {
         let mut bed = Bed::new(busy_card());
-        match self.start {
-            Start::Busy => {}
-            Start::Pending => {
-                let change = case("", Entry::Datalink, change(CHANGE_BITS, 0x1101, 32)).request;
-                make(&mut bed, &change);
+        if matches!(self.start, Start::Pending | Start::Full) {
+            let change = case("", Entry::Datalink, change(CHANGE_BITS, 0x1101, 32)).request;
+            make(&mut bed, &change);
+        }
+        if self.start == Start::Full {
+            for receiver in Receiver::all() {
+                make(&mut bed, &receiver.fill().request);
             }
-            Start::Wordless => bed.tables.words.clear(),
+        }
+        if self.start == Start::Wordless {
+            bed.tables.words.clear();
         }
         bed
     }
@@ -81,6 +88,10 @@ pub struct Plan {
     pub dialects: Vec<Group>,
     /// The card's loop: a probe's code, the governor's reading, then a frame of each dialect.
     pub mix: Group,
+    /// The first byte of a frame to each receiver.
+    pub at_rest: Vec<Group>,
+    /// Whole frames to each receiver, byte by byte and in one call, and quiet.
+    pub receivers: Vec<Group>,
     /// Whole exchanges of the line master: change, acknowledge, interrogate, end.
     pub master: Group,
     /// The entries without a dialect.
@@ -93,21 +104,29 @@ pub struct Plan {
     pub unfit: Group,
     /// Commands over their lengths and values, and the other entries, from a card with a pending change.
     pub sweeps: Vec<Group>,
+    /// More bytes to a receiver than a frame has.
+    pub long: Vec<Group>,
 }
 
 impl Plan {
     pub fn new() -> Self {
         let channel_4 = |name| Group::new(name, vec![probe("governor of channel 4", Entry::Governor, 4, 0)]);
-        let pending = |group: Group| group.from(Start::Pending);
+        let pending = |group: Group| match group.start {
+            Start::Busy => group.from(Start::Pending),
+            _ => group,
+        };
         Self {
             dialects: dialects(),
             mix: mix(),
+            at_rest: receivers::at_rest(),
+            receivers: receivers::rows(),
             master: exchanges("line master", &[2, 9, 32], &[1, 16]),
             others: others(),
             fitness: channel_4("fitness"),
             fitness_pending: channel_4("fitness with a pending change").from(Start::Pending),
             unfit: channel_4("no words").from(Start::Wordless),
-            sweeps: sweeps().into_iter().map(pending).collect(),
+            sweeps: sweeps().into_iter().chain(receivers::sweeps()).map(pending).collect(),
+            long: receivers::long().into_iter().map(pending).collect(),
         }
     }
 
@@ -115,7 +134,14 @@ impl Plan {
     pub fn groups(&self) -> Vec<&Group> {
         let fitness = [&self.fitness, &self.fitness_pending, &self.unfit];
         let single = [&self.mix, &self.master, &self.others].into_iter().chain(fitness);
-        self.dialects.iter().chain(single).chain(&self.sweeps).collect()
+        let received = self.at_rest.iter().chain(&self.receivers);
+        self.dialects
+            .iter()
+            .chain(single)
+            .chain(received)
+            .chain(&self.sweeps)
+            .chain(&self.long)
+            .collect()
     }
 }
 
@@ -140,7 +166,8 @@ fn busy_card() -> Card {
     card
 }
 
-fn case(name: impl Into<String>, entry: Entry, bytes: Vec<u8>) -> Case {
+/// A call with these bytes.
+pub fn case(name: impl Into<String>, entry: Entry, bytes: Vec<u8>) -> Case {
     Case {
         name: name.into(),
         request: Request {

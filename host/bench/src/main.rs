@@ -6,6 +6,7 @@ mod calls;
 mod console;
 mod frames;
 mod groups;
+mod receivers;
 mod report;
 mod stack;
 mod time;
@@ -55,8 +56,9 @@ fn report(plan: &Plan, dumps: &Path, disassembly: &Path) {
     let counted = report::Counted::all(plan, &costs);
     let text = std::fs::read_to_string(disassembly).expect("the disassembly can be read");
     report::calls_by_group(plan, &counted);
+    report::receivers(plan, &counted);
     report::fitness(plan, &counted);
-    report::worst(&counted, &stack::Frames::read(&text), &stack::most_touched(plan));
+    report::worst(plan, &counted, &stack::Frames::read(&text), &stack::most_touched(plan));
     report::growth(plan, &counted);
     report::times(plan);
 }

@@ -77,19 +77,32 @@ pub fn calls_by_group(plan: &Plan, counted: &[Counted]) {
     println!("| Calls | Number of them | Library | Second program | Ratio | Aim: {RATIO_AIM:.1} |");
     println!("|---|---|---|---|---|---|");
     for group in &plan.dialects {
-        print_mean(group.name, group.cases.len(), named(counted, group).total(), true);
+        print_group(named(counted, group), true);
     }
     for (case, cost) in named(counted, &plan.others).cases() {
         print_mean(&case.name, 1, cost, true);
     }
-    let master = named(counted, &plan.master);
-    print_mean(master.group.name, master.costs.len(), master.total(), true);
-    let mix = named(counted, &plan.mix);
-    print_mean(mix.group.name, mix.costs.len(), mix.total(), false);
+    print_group(named(counted, &plan.master), true);
+    print_group(named(counted, &plan.mix), false);
     let mut interrogates = named(counted, &plan.dialects[0]).cases();
     let longest = interrogates.find(|(case, _)| case.name == LONGEST_INTERROGATE);
     let (_, cost) = longest.expect("it is among Datalink's calls");
     print_mean("Datalink interrogate of 32 bytes", 1, cost, false);
+}
+
+/// Instructions of a receiver's call.
+pub fn receivers(plan: &Plan, counted: &[Counted]) {
+    println!("\n## Instructions of a receiver's call\n");
+    println!("| Calls | Number of them | Library | Second program | Ratio | Aim: {RATIO_AIM:.1} |");
+    println!("|---|---|---|---|---|---|");
+    for group in plan.at_rest.iter().chain(&plan.receivers) {
+        print_group(named(counted, group), true);
+    }
+}
+
+/// A row with the mean of a group's calls.
+fn print_group(counted: &Counted, has_aim: bool) {
+    print_mean(&counted.group.name, counted.costs.len(), counted.total(), has_aim);
 }
 
 /// A row with the mean of some calls.
@@ -127,17 +140,19 @@ pub fn fitness(plan: &Plan, counted: &[Counted]) {
     println!("| refused before fitness, by a table's length | {unfit} | | | | |");
 }
 
-/// The dearest call of each entry on either side, and the library's stack.
-pub fn worst(counted: &[Counted], frames: &Frames, touched: &HashMap<Entry, usize>) {
+/// The dearest call of each entry on either side, and the library's stack. A receiver is lent no more bytes than a frame has.
+pub fn worst(plan: &Plan, counted: &[Counted], frames: &Frames, touched: &HashMap<Entry, usize>) {
+    let is_long = |counted: &&Counted| plan.long.iter().any(|group| std::ptr::eq(group, counted.group));
     println!("\n## Worst cases\n");
     println!(
         "| Entry | Library | its dearest call | Second program | its dearest call | Ratio | Stack bytes | of them touched |"
     );
     println!("|---|---|---|---|---|---|---|---|");
-    for entry in Entry::ALL {
+    for &entry in Entry::ALL {
         let dearest = |part: fn(&Cost) -> u64| {
             let calls = counted
                 .iter()
+                .filter(|counted| !is_long(counted))
                 .flat_map(|counted| counted.cases().map(|(case, cost)| (counted.group, case, part(&cost))));
             let own = calls.filter(|(_, case, _)| case.request.entry == entry);
             let (group, case, cost) = own
@@ -165,7 +180,7 @@ pub fn growth(plan: &Plan, counted: &[Counted]) {
     );
     println!("|---|---|---|---|---|---|---|");
     let mut sweeps: Vec<(&str, Vec<(f64, Cost)>)> = Vec::new();
-    for group in &plan.sweeps {
+    for group in plan.sweeps.iter().chain(&plan.long) {
         for (case, cost) in named(counted, group).cases() {
             let Some((name, length)) = &case.point else {
                 continue;
@@ -212,13 +227,16 @@ pub fn times(plan: &Plan) {
     println!("| Calls | Median | Middle half of the turns | Aim: {RATIO_AIM:.1} |");
     println!("|---|---|---|---|");
     for group in &plan.dialects {
-        print_time(group.name, &ratio(group, &group.cases), true);
+        print_time(&group.name, &ratio(group, &group.cases), true);
     }
     for case in &plan.others.cases {
         print_time(&case.name, &ratio(&plan.others, from_ref(case)), true);
     }
     for (group, has_aim) in [(&plan.master, true), (&plan.mix, false), (&plan.fitness, false)] {
-        print_time(group.name, &ratio(group, &group.cases), has_aim);
+        print_time(&group.name, &ratio(group, &group.cases), has_aim);
+    }
+    for group in &plan.receivers {
+        print_time(&group.name, &ratio(group, &group.cases), true);
     }
 }
 

@@ -64,7 +64,7 @@ fn arguments(bed: &mut Bed, request: &Request) -> Vec<u64> {
     let tables = [
         lent(&bed.tables.words),
         lent(&bed.tables.memory),
-        lent(&bed.tables.pending),
+        lent(&bed.tables.ports),
     ]
     .concat();
     let answer = [&lent(&bed.answer)[..], &[&raw mut bed.len as u64]].concat();
@@ -77,6 +77,12 @@ fn arguments(bed: &mut Bed, request: &Request) -> Vec<u64> {
         Entry::WriteImage => [tables, answer].concat(),
         Entry::ReadImage => [tables, bytes].concat(),
         Entry::Datalink | Entry::Lecom | Entry::Love | Entry::Lucid => [tables, bytes, answer].concat(),
+        Entry::ReceiveDatalink | Entry::ReceiveLecom | Entry::ReceiveLove | Entry::ReceiveLucid => {
+            let frame = lent(&bed.answer).to_vec();
+            let told = vec![&raw mut bed.taken as u64, &raw mut bed.len as u64];
+            [tables, bytes, frame, told].concat()
+        }
+        Entry::QuietDatalink | Entry::QuietLecom | Entry::QuietLove | Entry::QuietLucid => tables,
         Entry::Step => {
             let ask = &request.ask;
             if ask.begins {

@@ -1,9 +1,9 @@
 //! The console's calls, and which of them a program lists in its `help` line.
 
 /// First words of all calls (docs/CONSOLE.md, "Calls").
-pub const CALLS: [&str; 14] = [
-    "probe", "restart", "governor", "datalink", "lecom", "love", "lucid", "save", "load", "request", "step", "poke",
-    "peek", "help",
+pub const CALLS: [&str; 16] = [
+    "probe", "restart", "governor", "datalink", "lecom", "love", "lucid", "receive", "quiet", "save", "load",
+    "request", "step", "poke", "peek", "help",
 ];
 
 /// What stands before the list in a `help` line.

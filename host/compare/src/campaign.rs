@@ -92,9 +92,9 @@ fn compare(
             total.scripts += 1;
             total.lines += script.len();
             let script: Vec<&Line> = script.iter().collect();
-            let Section { name, is_followed, .. } = *scribe.section;
-            if let Some(finding) = judge.judge(&script, is_followed, &mut total.tally)? {
-                let shown = shortest(judge, &script, is_followed, finding);
+            let Section { name, is_exchange, .. } = *scribe.section;
+            if let Some(finding) = judge.judge(&script, is_exchange, &mut total.tally)? {
+                let shown = shortest(judge, &script, is_exchange, finding);
                 return Ok(Some(format!("section {name}, seed {}\n{shown}", options.seed)));
             }
         }

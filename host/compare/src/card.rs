@@ -25,6 +25,10 @@ pub const SMALL_TABLES: [&str; 10] = [
     "kept",
     "pending",
 ];
+/// The tables of the part frames (document 02, M-100), which only consoles with receivers have.
+pub const PART_TABLES: [&str; 4] = ["part datalink", "part lecom", "part love", "part lucid"];
+/// The word before a dialect that names the table of its part frame.
+pub const PART: &str = "part";
 /// LECOM registers in each copy.
 pub const REGISTERS: usize = 96;
 /// LucidControl parameters of all channels.

@@ -2,7 +2,8 @@
 //!
 //! A watch reads lines and answers and follows the exchange from `request` on. It checks only while the premise
 //! holds: a request that 7 does not refuse, answers that the frame last sent got in its round, and no other change or
-//! acknowledge that was accepted, nor a poke. So any part of a script can be watched.
+//! acknowledge that was accepted, nor a poke. So any part of a script can be watched. Where a frame comes byte by byte it
+//! arrives when the Datalink entry gets it (document 02, M-100); what the receiver takes and drops does not matter.
 
 use crate::card::{IA_MOST, MEMORY_END, MEMORY_PLACES, MEMORY_START, WRITABLE_START};
 use crate::frames::datalink::{ACKNOWLEDGE, CHANGE, CHANGE_BITS, COMMAND_FIELD};
@@ -205,7 +206,7 @@ impl Watch {
         }
         match call {
             b"peek" if rest == [b"memory"] => return self.see_memory(&answer),
-            b"peek" | b"governor" | b"save" | b"help" => {}
+            b"peek" | b"governor" | b"save" | b"receive" | b"quiet" | b"help" => {}
             b"request" => {
                 let asked = Asked::read(rest);
                 let old = self.memory.clone();
@@ -469,6 +470,19 @@ mod tests {
         followed.take("datalink 38 7E E3 00 10 10 03");
         followed.take("restart");
         assert!(followed.watch.exchange.is_some());
+    }
+
+    #[test]
+    fn a_collected_frame_arrives_when_the_entry_gets_it() {
+        let mut followed = Followed::new();
+        followed.take("step 38");
+        assert_eq!(followed.take("receive datalink 38 55 7E A3 02 10 10 01 02"), "1 8");
+        let collected = followed.take("receive datalink 38 C8");
+        followed.take("quiet datalink");
+        assert_eq!(followed.watch.exchange.as_ref().unwrap().arrivals, 0);
+        followed.take(&format!("datalink 38{}", &collected["0 1".len()..]));
+        let exchange = followed.watch.exchange.as_ref().unwrap();
+        assert_eq!((exchange.arrivals, exchange.is_first_accepted), (1, true));
     }
 
     #[test]

@@ -1,13 +1,16 @@
-//! Runs both programs on a script and finds the first difference, or the first broken clause of an exchange.
+//! Runs both programs on a script and finds the first difference, or the first clause that the console breaks.
 
 use std::path::{Path, PathBuf};
 
 use crate::calls::Listed;
 use crate::clauses::Watch;
+use crate::division;
+use crate::entries::Entry;
 use crate::program::{ask, run_both, End, Run};
 use crate::stillness::Stillness;
 use crate::tally::Tally;
 use crate::text::is_silent;
+use crate::ways::Ways;
 use crate::writer::Line;
 
 /// The line that lists the calls.
@@ -87,10 +90,16 @@ impl Judge {
             return Ok(Some(difference));
         }
         let mut stillness = Stillness::default();
+        let mut division = division::Watch::default();
+        let mut ways = Ways::default();
         let mut watch = is_exchange.then(Watch::default);
         for (line, answer) in answers(script, &console.output) {
             tally.count(script[line], answer);
+            for (receiver, way) in ways.see(script[line], answer) {
+                tally.mark(Entry::Receive(receiver), way.to_owned());
+            }
             let mut seen = stillness.see(script[line], answer);
+            seen = seen.and_then(|()| division.see(script[line], answer));
             if let Some(watch) = &mut watch {
                 seen = seen.and_then(|()| watch.see(script[line], answer));
             }

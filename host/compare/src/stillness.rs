@@ -1,5 +1,6 @@
-//! What must change nothing: numbers 2 to 14, unreadable lines, and calls that only look (document 01, "Numbers
-//! returned"; docs/CONSOLE.md, "Lines"). Checked on a program's own peeks.
+//! What must change nothing: numbers 2 to 14 and 16, unreadable lines, and calls that only look (document 01, "Numbers
+//! returned"; docs/CONSOLE.md, "Lines"); and that a receiver changes its part frame alone (document 02, M-100). Checked on a
+//! program's own peeks.
 
 use std::collections::HashMap;
 
@@ -21,10 +22,15 @@ impl Stillness {
         if first == b"error" {
             return Ok(());
         }
-        match words(line).next() {
+        let mut called = words(line);
+        match called.next() {
             Some(b"peek") => return self.see_table(line, answer),
             None | Some(b"governor" | b"save" | b"request" | b"step" | b"help") => {}
             Some(_) if number(first).is_some_and(|number| number >= FIRST_REFUSAL) => {}
+            Some(b"receive" | b"quiet") => {
+                let part = [b"peek", &b"part"[..], called.next().unwrap_or_default()];
+                self.shown.retain(|shown, _| !words(shown).eq(part));
+            }
             Some(_) => self.shown.clear(),
         }
         Ok(())
@@ -65,5 +71,24 @@ mod tests {
         assert!(!may_change(b"probe 0\n", b"error expected probe CHANNEL CODE\n"));
         assert!(!may_change(b"step 38\n", b"0 open 7E\n"));
         assert!(!may_change(b"save 293\n", b"0 00\n"));
+        assert!(!may_change(b"receive love 32 02\n", b"1 1\n"));
+        assert!(!may_change(b"quiet love\n", b"1\n"));
+    }
+
+    #[test]
+    fn receivers_change_their_own_part_frame_alone() {
+        let see = |call: &[u8], answer: &[u8], table: &[u8]| {
+            let mut stillness = Stillness::default();
+            stillness.see(table, b"2\n").unwrap();
+            stillness.see(call, answer).unwrap();
+            stillness.see(table, b"\n").is_ok()
+        };
+        for call in [&b"receive love 32 03\n"[..], b"quiet love\n"] {
+            assert!(see(call, b"1\n", b"peek part love\n"));
+            assert!(!see(call, b"1\n", b"peek part lecom\n"));
+            assert!(!see(call, b"12\n", b"peek part love\n"));
+            assert!(!see(call, b"16\n", b"peek part love\n"));
+        }
+        assert!(see(b"restart\n", b"1\n", b"peek part love\n"));
     }
 }

@@ -28,26 +28,31 @@ pub struct Tally {
 impl Tally {
     /// Counts a call's answer; other lines, and answers that tell of an unreadable line, do not count.
     pub fn count(&mut self, line: &[u8], answer: &[u8]) {
-        let Some(entry) = words(line).next().and_then(Entry::of_call) else {
+        let Some(entry) = Entry::of_line(line) else {
             return;
         };
         let mut answered = words(answer);
         let Some(first) = answered.next().and_then(number) else {
             return;
         };
-        let counts = &mut self.counts[entry as usize];
+        let counts = &mut self.counts[entry.place()];
         *counts.numbers.entry(first as usize).or_default() += 1;
         if let Some(mark) = mark(entry, first, answered) {
-            *counts.marks.entry(mark).or_default() += 1;
+            self.mark(entry, mark);
         }
+    }
+
+    /// Counts a mark of an entry.
+    pub fn mark(&mut self, entry: Entry, mark: String) {
+        *self.counts[entry.place()].marks.entry(mark).or_default() += 1;
     }
 
     /// What can come up for these entries but did not, and what came up but cannot.
     pub fn faults(&self, entries: &[Entry], listed: &Listed) -> Vec<String> {
         let mut faults = Vec::new();
         for entry in Entry::ALL {
-            let counts = &self.counts[entry as usize];
-            let name = entry.call();
+            let counts = &self.counts[entry.place()];
+            let name = entry.name();
             let possible = entry.numbers();
             if entries.contains(&entry) {
                 let missing = possible
@@ -78,7 +83,7 @@ fn mark_faults(entry: Entry, counts: &Counts, is_asked: bool) -> Vec<String> {
     let Some((kind, possible)) = entry.marks() else {
         return Vec::new();
     };
-    let name = entry.call();
+    let name = entry.name();
     let missing = possible
         .iter()
         .filter(|mark| is_asked && !counts.marks.contains_key(**mark))
@@ -111,15 +116,15 @@ fn mark<'a>(entry: Entry, number: i64, mut words: impl Iterator<Item = &'a [u8]>
 
 impl fmt::Display for Tally {
     fn fmt(&self, out: &mut fmt::Formatter) -> fmt::Result {
-        write!(out, "{:<9}", "entry")?;
-        for number in 0..NUMBERS {
+        write!(out, "{:<16}", "entry")?;
+        for number in NUMBERS {
             write!(out, "{number:>8}")?;
         }
         writeln!(out)?;
         for entry in Entry::ALL {
-            write!(out, "{:<9}", entry.call())?;
-            for number in 0..NUMBERS {
-                match self.counts[entry as usize].numbers.get(&number) {
+            write!(out, "{:<16}", entry.name())?;
+            for number in NUMBERS {
+                match self.counts[entry.place()].numbers.get(&number) {
                     Some(count) => write!(out, "{count:>8}")?,
                     None if entry.numbers().contains(&number) => write!(out, "{:>8}", 0)?,
                     None => write!(out, "{:>8}", "-")?,
@@ -131,9 +136,9 @@ impl fmt::Display for Tally {
             let Some((kind, possible)) = entry.marks() else {
                 continue;
             };
-            write!(out, "{} {kind}:", entry.call())?;
+            write!(out, "{} {kind}:", entry.name())?;
             for mark in possible {
-                let count = self.counts[entry as usize].marks.get(*mark);
+                let count = self.counts[entry.place()].marks.get(*mark);
                 write!(out, "  {mark} {}", count.unwrap_or(&0))?;
             }
             writeln!(out)?;
@@ -145,6 +150,7 @@ impl fmt::Display for Tally {
 #[cfg(test)]
 mod tests {
     use super::*;
+    use crate::receivers::Receiver;
 
     fn listed() -> Listed {
         Listed::read("calls: probe CHANNEL CODE; poke TABLE PLACE VALUE\n").unwrap()
@@ -163,6 +169,28 @@ mod tests {
         tally.count(b"probe 0 1\n", b"7\n");
         let faults = tally.faults(&[], &listed());
         assert_eq!(faults, ["probe gave 7, which it cannot"]);
+    }
+
+    #[test]
+    fn ways_are_counted_for_each_receiver() {
+        let entry = Entry::Receive(Receiver::Lucid);
+        let listed = Listed::read("calls: receive DIALECT ROOM BYTES; poke TABLE PLACE VALUE\n").unwrap();
+        let mut tally = Tally::default();
+        for answer in ["0 4 01 02 03 00\n", "1 0\n", "12\n", "16\n"] {
+            tally.count(b"receive lucid 259 01 02 03 00\n", answer.as_bytes());
+        }
+        tally.count(b"receive love 32\n", b"1 0\n");
+        for way in ["finished", "quiet"] {
+            tally.mark(entry, way.to_owned());
+        }
+        assert_eq!(
+            tally.faults(&[entry], &listed),
+            ["receive lucid never gave way restart"]
+        );
+        tally.mark(entry, "restart".to_owned());
+        assert!(tally.faults(&[entry], &listed).is_empty());
+        tally.count(b"receive lucid 259\n", b"11\n");
+        assert_eq!(tally.faults(&[], &listed), ["receive lucid gave 11, which it cannot"]);
     }
 
     #[test]

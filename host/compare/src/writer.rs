@@ -3,7 +3,7 @@
 use std::ops::Range;
 
 use crate::calls::{Listed, CALLS};
-use crate::card::{self, Place, MEMORY, SMALL_TABLES};
+use crate::card::{self, Place, MEMORY, PART, PART_TABLES, SMALL_TABLES};
 use crate::model::Model;
 use crate::rng::Rng;
 use crate::text::{hex_words, words};
@@ -85,9 +85,13 @@ impl<'a> Writer<'a> {
         }
     }
 
-    /// Follows the script in the reference library, so that calls give their answers, and peeks memory always.
+    /// Follows the script in the reference library, so that calls give their answers.
     pub fn follow(&mut self) {
         self.model = Some(Model::new());
+    }
+
+    /// Peeks the Datalink memory after every call.
+    pub fn peek_memory_always(&mut self) {
         self.memory_peeks = MemoryPeeks::Always;
     }
 
@@ -127,11 +131,13 @@ impl<'a> Writer<'a> {
 
     /// Writes a line without peeks, unless its call is not listed.
     fn quiet(&mut self, line: &[u8]) -> Option<Option<String>> {
-        let name = words(line).next().unwrap_or_default();
+        let mut words = words(line);
+        let name = words.next().unwrap_or_default();
         let is_left_out = CALLS
             .iter()
             .any(|call| call.as_bytes() == name && !self.listed.has(call));
-        if is_left_out {
+        let is_part = matches!(name, b"poke" | b"peek") && words.next() == Some(PART.as_bytes());
+        if is_left_out || is_part && !self.has_receivers() {
             return None;
         }
         let mut ended = line.to_vec();
@@ -140,12 +146,20 @@ impl<'a> Writer<'a> {
         Some(self.model.as_mut().map(|model| model.line(line)))
     }
 
-    /// Shows every small table, and the memory where that is asked.
+    /// Whether the console has receivers, and with them part frames.
+    pub fn has_receivers(&self) -> bool {
+        self.listed.has("receive")
+    }
+
+    /// Shows every small table and part frame, and the memory where that is asked.
     pub fn peek(&mut self, with_memory: bool) {
         if !self.listed.has("peek") {
             return;
         }
         self.lines.extend(SMALL_TABLES.map(peek_line));
+        if self.has_receivers() {
+            self.lines.extend(PART_TABLES.map(peek_line));
+        }
         if with_memory || self.memory_peeks == MemoryPeeks::Always {
             self.lines.push(peek_line(MEMORY));
         }
@@ -176,6 +190,16 @@ impl<'a> Writer<'a> {
             self.set("pending", place, value);
         }
         self.set("pending", PENDING_KIND, i64::from(kind));
+    }
+
+    /// Makes an entry fit again.
+    pub fn repair(&mut self, place: Place) {
+        if place.table == "address" {
+            self.set_addresses();
+        } else {
+            let value = place.fit_value(&mut self.rng);
+            self.poke(place, value);
+        }
     }
 
     /// Gives the card other addresses.

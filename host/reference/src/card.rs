@@ -1,6 +1,7 @@
 //! What the card holds, its fitness, and the entries without a dialect (document 01, "What the card holds").
 
 use crate::numbers::Number;
+use crate::{datalink, lecom, love, lucid};
 
 /// Probes, fan demands and LucidControl channels.
 pub const CHANNELS: usize = 4;
@@ -173,6 +174,64 @@ impl Pending {
     }
 }
 
+/// The bytes that a receiver has collected of a frame that is not finished (document 02, M-100).
+#[derive(Clone, PartialEq, Eq, Debug)]
+pub struct Part<const LONGEST: usize> {
+    /// How many bytes were collected; none if the receiver is at rest.
+    pub count: u16,
+    /// The bytes; those behind the count mean nothing, but stay as they were.
+    pub bytes: [u8; LONGEST],
+}
+
+impl<const LONGEST: usize> Part<LONGEST> {
+    /// Nothing collected.
+    const NONE: Self = Self {
+        count: 0,
+        bytes: [0; LONGEST],
+    };
+}
+
+/// What the port keeps from call to call: the pending change, then the part frame of each dialect.
+#[derive(Clone, PartialEq, Eq, Debug)]
+pub struct Ports {
+    /// The pending Datalink change.
+    pub pending: Pending,
+    /// The part frame of Datalink.
+    pub datalink: Part<{ datalink::LONGEST }>,
+    /// The part frame of LECOM.
+    pub lecom: Part<{ lecom::LONGEST }>,
+    /// The part frame of Love.
+    pub love: Part<{ love::LONGEST }>,
+    /// The part frame of LucidControl.
+    pub lucid: Part<{ lucid::LONGEST }>,
+}
+
+impl Ports {
+    /// Nothing pending and every receiver at rest.
+    const NONE: Self = Self {
+        pending: Pending {
+            kind: PENDING_NONE,
+            address: 0,
+            num: 0,
+            data: [0; NUM_MOST],
+        },
+        datalink: Part::NONE,
+        lecom: Part::NONE,
+        love: Part::NONE,
+        lucid: Part::NONE,
+    };
+
+    /// Drops the pending change and every part frame, as a restart does.
+    #[inline]
+    fn drop_all(&mut self) {
+        self.pending.kind = PENDING_NONE;
+        self.datalink.count = 0;
+        self.lecom.count = 0;
+        self.love.count = 0;
+        self.lucid.count = 0;
+    }
+}
+
 /// Whether a range of Datalink bytes lies in the memory.
 #[inline]
 pub fn in_memory(address: u16, named: u8) -> bool {
@@ -206,8 +265,8 @@ pub struct Card {
     pub parameter: Parameters,
     /// Saved copies of the LucidControl parameters.
     pub kept: Parameters,
-    /// The pending Datalink change.
-    pub pending: Pending,
+    /// The pending change and the part frames.
+    pub ports: Ports,
 }
 
 impl Card {
@@ -229,22 +288,20 @@ impl Card {
             demand: [RESTART_DEMAND; CHANNELS],
             parameter: DEFAULT_PARAMETERS,
             kept: DEFAULT_PARAMETERS,
-            pending: Pending {
-                kind: PENDING_NONE,
-                address: 0,
-                num: 0,
-                data: [0; NUM_MOST],
-            },
+            ports: Ports::NONE,
         }
     }
 
     /// Whether addresses, entries and pending change keep document 01's rules; number 12 if not. Probe codes and memory
-    /// bytes have no unfit value.
+    /// bytes have no unfit value, and only the receivers look at part frames.
     ///
     /// Kept out of line: where it is inlined, the compiler turns some of its tests about and needs more instructions.
     #[inline(never)]
     pub fn is_fit(&self) -> bool {
-        !self.has_register_outside() && !self.has_four_outside() && self.addresses.is_fit() && self.pending.is_fit()
+        !self.has_register_outside()
+            && !self.has_four_outside()
+            && self.addresses.is_fit()
+            && self.ports.pending.is_fit()
     }
 
     /// Whether a register of any copy is outside its range.
@@ -309,7 +366,7 @@ pub fn restart(card: &mut Card) -> Number {
     card.parameter = card.kept;
     card.demand = [RESTART_DEMAND; CHANNELS];
     card.memory[..CHANNELS].fill(FAULT_CODE);
-    card.pending.kind = PENDING_NONE;
+    card.ports.drop_all();
     Number::Silent
 }
 

@@ -1,10 +1,13 @@
 //! The console: one card and one line master, driven by lines (docs/CONSOLE.md).
 
+mod receivers;
 mod tables;
 mod words;
 
 use std::io::{self, Read, Write};
 
+use self::receivers::receiver;
+use self::tables::split_table;
 use self::words::{append_bytes, end, room, split_slash, split_word, unsigned, Unreadable, ROOM_MOST};
 use crate::card::{self, Card, Governor};
 use crate::figures::{decimal, hex_figures, DECIMAL_MOST};
@@ -66,6 +69,16 @@ const CALLS: &[Call] = &[
         name: "lucid",
         usages: &["lucid ROOM BYTES"],
         run: |console, words, out| console.dialect(lucid::lucid, words, out),
+    },
+    Call {
+        name: "receive",
+        usages: &["receive DIALECT ROOM BYTES"],
+        run: Console::receive,
+    },
+    Call {
+        name: "quiet",
+        usages: &["quiet DIALECT"],
+        run: Console::quiet,
     },
     Call {
         name: "save",
@@ -284,6 +297,29 @@ impl Console {
         Ok(())
     }
 
+    fn receive(&mut self, words: &[u8], out: &mut Vec<u8>) -> Result<(), Error> {
+        let (dialect, words) = split_word(words);
+        let receiver = receiver(dialect)?;
+        let (room, words) = room(words)?;
+        self.take_bytes(words)?;
+        let received = (receiver.receive)(&mut self.card, &self.bytes, &mut self.room[..room]);
+        write_number(out, received.number);
+        if matches!(received.number, Number::Answered | Number::Silent) {
+            out.push(b' ');
+            write_entries(out, &[received.taken as i64]);
+        }
+        write_bytes(out, &self.room[..received.length]);
+        Ok(())
+    }
+
+    fn quiet(&mut self, words: &[u8], out: &mut Vec<u8>) -> Result<(), Error> {
+        let (dialect, words) = split_word(words);
+        let receiver = receiver(dialect)?;
+        end(words)?;
+        write_number(out, (receiver.quiet)(&mut self.card));
+        Ok(())
+    }
+
     fn save(&mut self, words: &[u8], out: &mut Vec<u8>) -> Result<(), Error> {
         let (room, words) = room(words)?;
         end(words)?;
@@ -349,7 +385,7 @@ impl Console {
     }
 
     fn poke(&mut self, words: &[u8], out: &mut Vec<u8>) -> Result<(), Error> {
-        let (table, words) = split_word(words);
+        let (table, words) = split_table(words)?;
         let (place, words) = split_word(words);
         let (value, words) = split_word(words);
         let place = usize::from(unsigned::<u16>(place)?);
@@ -360,7 +396,7 @@ impl Console {
     }
 
     fn peek(&mut self, words: &[u8], out: &mut Vec<u8>) -> Result<(), Error> {
-        let (table, words) = split_word(words);
+        let (table, words) = split_table(words)?;
         end(words)?;
         tables::peek(&self.card, table, out)?;
         Ok(())

@@ -83,10 +83,11 @@ fn change(card: &mut Card, kind: u8, frame: &[u8], answer: &mut [u8; ANSWER_ROOM
     if !is_writable(address, named) {
         return Reply::silent(Number::ReadOnly);
     }
-    card.pending.kind = kind;
-    card.pending.address = address;
-    card.pending.num = num;
-    card.pending.data = block;
+    let pending = &mut card.ports.pending;
+    pending.kind = kind;
+    pending.address = address;
+    pending.num = num;
+    pending.data = block;
     head.response().write(data, answer);
     answer[HEAD + data.len()] = head.response_lrc(lrc);
     Reply::answered(frame.len())
@@ -95,7 +96,7 @@ fn change(card: &mut Card, kind: u8, frame: &[u8], answer: &mut [u8; ANSWER_ROOM
 /// Applies and clears the pending change, which fitness has found to be one that was echoed.
 #[inline(always)]
 fn acknowledge(card: &mut Card) -> Reply {
-    let pending = &mut card.pending;
+    let pending = &mut card.ports.pending;
     if pending.kind == PENDING_NONE {
         return Reply::silent(Number::NothingPending);
     }

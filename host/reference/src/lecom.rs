@@ -10,10 +10,10 @@ pub const SHORTEST: usize = 6;
 /// Longest frame.
 pub const LONGEST: usize = 25;
 
-const STX: u8 = 0x02;
-const ETX: u8 = 0x03;
-const EOT: u8 = 0x04;
-const ENQ: u8 = 0x05;
+pub(crate) const STX: u8 = 0x02;
+pub(crate) const ETX: u8 = 0x03;
+pub(crate) const EOT: u8 = 0x04;
+pub(crate) const ENQ: u8 = 0x05;
 const ACK: u8 = 0x06;
 const NAK: u8 = 0x15;
 

@@ -12,8 +12,8 @@ pub const LONGEST: usize = 32;
 /// Filter characters by the address's hundreds in hex.
 pub const FILTER: &[u8; 4] = b"LOVE";
 
-const STX: u8 = 0x02;
-const ETX: u8 = 0x03;
+pub(crate) const STX: u8 = 0x02;
+pub(crate) const ETX: u8 = 0x03;
 const ACK: u8 = 0x06;
 const ERROR_MARK: u8 = b'N';
 /// STX, filter and two address figures.

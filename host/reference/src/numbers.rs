@@ -1,4 +1,4 @@
-//! The numbers returned by the entries (document 01, "Numbers returned").
+//! The numbers returned by the entries (document 01, "Numbers returned"; those above 14 are document 02's).
 
 /// Smallest answer buffer that a dialect's entry takes (document 01, "Numbers returned").
 pub const ANSWER_ROOM: usize = 38;
@@ -37,6 +37,8 @@ pub enum Number {
     ImageLength = 13,
     /// Image padding not zero.
     ImagePadding = 14,
+    /// Frame buffer below the dialect's longest frame.
+    ShortFrameBuffer = 16,
 }
 
 /// An entry's number and how many bytes of the caller's buffer are its answer.

@@ -8,11 +8,11 @@ use Rattle.console.proofs.main.Statement.{statement}
 use Rattle.console.proofs.main.Tie as tie
 
 abbrev Inv-loop : tie.InvT-loop
-Inv-loop words₀ memory₀ pending₀ sent₀ states₀ buffer₀ text₀ f₀ g₀ out₀ held₀ state₀ turns₀ words memory pending sent states buffer text f g out held state turns =
+Inv-loop words₀ memory₀ ports₀ sent₀ states₀ buffer₀ text₀ f₀ g₀ out₀ held₀ state₀ turns₀ words memory ports sent states buffer text f g out held state turns =
     Standing (state .input .at) (state .input .end) (state .held) × Held (state .exchange .sent) (state .exchange .states)
 
 abbrev μ-loop : tie.MeasureT-loop
-μ-loop words₀ memory₀ pending₀ sent₀ states₀ buffer₀ text₀ f₀ g₀ out₀ held₀ state₀ turns₀ words memory pending sent states buffer text f g out held state turns = turns
+μ-loop words₀ memory₀ ports₀ sent₀ states₀ buffer₀ text₀ f₀ g₀ out₀ held₀ state₀ turns₀ words memory ports sent states buffer text f g out held state turns = turns
 
 slice-aggregate-start-words : tie.Need-slice-aggregate-start-words Inv-loop μ-loop
 slice-aggregate-start-words c = search needs

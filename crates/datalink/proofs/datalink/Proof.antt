@@ -28,7 +28,7 @@ unfolding datalinkReply
 returns c = shell-stopped _ _ _ _ (c .before .stop-early .ensures) (c .if1 .taken)
 
 -- the card is fit and the answer buffer is long enough
-passed : (c : tie.Else1) → (fit (cardOf (c .before .before .before .before .before .before .before .before .before .args .words .now) (c .before .before .before .before .before .before .before .before .before .args .memory .now) (c .before .before .before .before .before .before .before .before .before .args .pending .now)) ≡ true) × (roomLeast ≤ length (c .before .before .before .before .before .before .before .before .before .args .out .now))
+passed : (c : tie.Else1) → (fit (cardOf (c .before .before .before .before .before .before .before .before .before .args .words .now) (c .before .before .before .before .before .before .before .before .before .args .memory .now) (c .before .before .before .before .before .before .before .before .before .args .ports .now)) ≡ true) × (roomLeast ≤ length (c .before .before .before .before .before .before .before .before .before .args .out .now))
 passed c = early-none _ _ _ (c .before .stop-early .ensures) (c .if1 .left)
 
 shared-slice-read-order-of : tie.Need-shared-slice-read-order-of

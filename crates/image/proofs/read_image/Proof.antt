@@ -26,7 +26,7 @@ returns : tie.Need-returns
 returns c = did-as _ _ (read-unfit _ _ (told-no (c .before .is-fit .ensures) (c .if1 .taken))) (did-silent cardUnfit _)
 
 -- the card as lent is fit
-fits : (c : tie.Else1) → fit (cardOf (c .before .before .before .before .before .before .before .args .words .now) (c .before .before .before .before .before .before .before .args .memory .now) (c .before .before .before .before .before .before .before .args .pending .now)) ≡ true
+fits : (c : tie.Else1) → fit (cardOf (c .before .before .before .before .before .before .before .args .words .now) (c .before .before .before .before .before .before .before .args .memory .now) (c .before .before .before .before .before .before .before .args .ports .now)) ≡ true
 fits c = told-yes (c .before .is-fit .ensures) (c .if1 .left)
 
 same-length-2 : tie.Need-same-length-2

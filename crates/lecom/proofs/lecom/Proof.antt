@@ -54,7 +54,7 @@ returns-2 c =
     let passed = judged .before .before .before in
     let p = early-none _ _ _ (passed .before .stop-early .ensures) (passed .if1 .left) in
     let a = c .before .before .before .before .before .before .before .before .before .before .before .before .before .before .before .before .before .before .args in
-    shell-passed _ _ _ _ (p .0) (p .1) (gave-words (cardOf (a .words .now) (a .memory .now) (a .pending .now)) _ _ (rw (← (judged .order-of .ensures)) (c .before .before .before .before .obey .ensures)))
+    shell-passed _ _ _ _ (p .0) (p .1) (gave-words (cardOf (a .words .now) (a .memory .now) (a .ports .now)) _ _ (rw (← (judged .order-of .ensures)) (c .before .before .before .before .obey .ensures)))
 
 pub lecom-spec : {M : Type 1} → statement M
 lecom-spec =

@@ -17,7 +17,7 @@ use Rattle.love.proofs.love.Statement.{statement}
 use Rattle.love.proofs.love.Tie as tie
 
 -- past the shell the card is fit and the buffer long enough
-passed : (c : tie.Else1) → (fit (cardOf (c .before .before .before .before .before .before .before .before .args .words .now) (c .before .before .before .before .before .before .before .before .args .memory .now) (c .before .before .before .before .before .before .before .before .args .pending .now)) ≡ true) × (roomLeast ≤ length (c .before .before .before .before .before .before .before .before .args .out .now))
+passed : (c : tie.Else1) → (fit (cardOf (c .before .before .before .before .before .before .before .before .args .words .now) (c .before .before .before .before .before .before .before .before .args .memory .now) (c .before .before .before .before .before .before .before .before .args .ports .now)) ≡ true) × (roomLeast ≤ length (c .before .before .before .before .before .before .before .before .args .out .now))
 passed c = early-none _ _ _ (c .before .stop-early .ensures) (c .if1 .left)
 
 stop-early-requires : tie.Need-stop-early-requires
@@ -54,7 +54,7 @@ returns-2 c =
     let p = passed (c .before .before .before .before .before .before .before .before .before) in
     let a = c .before .before .before .before .before .before .before .before .before .before .before .before .before .before .before .before .before .args in
     rw (← c .before .before .before .before .before .before .before .order-of .ensures)
-    (shell-passed _ _ _ _ (p .0) (p .1) (gave-words (cardOf (a .words .now) (a .memory .now) (a .pending .now)) _ _ (c .before .before .before .before .obey .ensures)))
+    (shell-passed _ _ _ _ (p .0) (p .1) (gave-words (cardOf (a .words .now) (a .memory .now) (a .ports .now)) _ _ (c .before .before .before .before .obey .ensures)))
 
 pub love-spec : {M : Type 1} → statement M
 love-spec =

@@ -44,7 +44,7 @@ returns-2 c =
     let p = early-none _ _ _ (passed .before .stop-early .ensures) (passed .if1 .left) in
     let a = passed .before .before .before .before .before .before .before .before .args in
     rw (← c .before .before .before .before .before .before .before .order-of .ensures)
-    (shell-passed _ _ _ _ (p .0) (p .1) (gave-words (cardOf (a .words .now) (a .memory .now) (a .pending .now)) _ _ (c .before .before .before .before .obey .ensures)))
+    (shell-passed _ _ _ _ (p .0) (p .1) (gave-words (cardOf (a .words .now) (a .memory .now) (a .ports .now)) _ _ (c .before .before .before .before .obey .ensures)))
 
 pub lucid-spec : {M : Type 1} → statement M
 lucid-spec = tie.close (tie.spec stop-early-requires same-length returns order-of-requires obey-requires same-length-2 same-length-3 returns-2)

@@ -1,6 +1,6 @@
 -- `tables::read_value` meets its contract. Assumes nothing.
 use native.Mathlib.Omega.{arith}
-use Rattle.tables.proofs.Mosts.{most-word}
+use Rattle.tables.proofs.Entries.{most-word}
 use borrow.Author.Needs.{needs}
 use Rattle.tables.proofs.read_value.Statement.{statement}
 use Rattle.tables.proofs.read_value.Tie as tie

@@ -8,10 +8,10 @@ use Rattle.tables.proofs.show.Statement.{statement}
 use Rattle.tables.proofs.show.Tie as tie
 
 abbrev Inv-loop : tie.InvT-loop
-Inv-loop words memory pending first count out₀ at₀ i₀ out at i = ((i ≤ count) × (i ≤ at)) × ((at ≤ 12 * i) × (length out ≡ length out₀))
+Inv-loop words memory ports first count out₀ at₀ i₀ out at i = (i ≤ count) × ((at ≤ 12 * i) × (length out ≡ length out₀))
 
 abbrev μ-loop : tie.MeasureT-loop
-μ-loop words memory pending first count out₀ at₀ i₀ out at i = count - i
+μ-loop words memory ports first count out₀ at₀ i₀ out at i = count - i
 
 loop-holds : tie.Need-loop-holds Inv-loop μ-loop
 loop-holds c = search needs
@@ -44,16 +44,22 @@ loop-less : tie.Need-loop-less Inv-loop μ-loop
 loop-less c = search needs
 
 loop-again : tie.Need-loop-again Inv-loop μ-loop
-loop-again c = ((omega arith, omega arith), (omega arith, simp length-set (omega arith)))
-
-sub-result : tie.Need-sub-result Inv-loop μ-loop
-sub-result c = search needs
+loop-again c = (omega arith, (omega arith, simp length-set (omega arith)))
 
 same-length : tie.Need-same-length Inv-loop μ-loop
 same-length c = search needs
 
 returns : tie.Need-returns Inv-loop μ-loop
 returns c = search needs
+
+sub-result : tie.Need-sub-result Inv-loop μ-loop
+sub-result c = search needs
+
+same-length-2 : tie.Need-same-length-2 Inv-loop μ-loop
+same-length-2 c = search needs
+
+returns-2 : tie.Need-returns-2 Inv-loop μ-loop
+returns-2 c = search needs
 
 pub show-spec : {M : Type 1} → statement M
 show-spec =
@@ -72,6 +78,8 @@ show-spec =
     add-i
     loop-less
     loop-again
-    sub-result
     same-length
-    returns)
+    returns
+    sub-result
+    same-length-2
+    returns-2)

@@ -6,13 +6,13 @@ use crate::rng::Rng;
 use crate::writer::Addresses;
 
 /// Begins the code of a write.
-const STX: u8 = 0x02;
+pub const STX: u8 = 0x02;
 /// Ends the data of a write.
-const ETX: u8 = 0x03;
+pub const ETX: u8 = 0x03;
 /// Begins every telegram.
-const EOT: u8 = 0x04;
+pub const EOT: u8 = 0x04;
 /// Ends a read.
-const ENQ: u8 = 0x05;
+pub const ENQ: u8 = 0x05;
 /// Where a write's code begins: after EOT, two figures and STX.
 const WRITE_CODE: usize = 4;
 

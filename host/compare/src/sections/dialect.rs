@@ -121,11 +121,6 @@ fn unfit<D: Dialect>(out: &mut Writer, turn: usize) {
         let assembled = D::assembled(&mut out.rng, &out.addresses);
         out.frame(D::CALL, room, &assembled);
     }
-    if place.table == "address" {
-        out.set_addresses();
-    } else {
-        let value = place.fit_value(&mut out.rng);
-        out.poke(place, value);
-    }
+    out.repair(place);
     send_valid::<D>(out);
 }

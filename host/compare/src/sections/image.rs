@@ -1,7 +1,7 @@
 //! Section `image`: images written and read, whole and with every field, bit and length spoiled.
 
 use super::dialect::send_valid;
-use crate::card::{ranged_places, Place};
+use crate::card::ranged_places;
 use crate::frames::{datalink::Datalink, lecom::Lecom, love::Love, lucid::Lucid};
 use crate::image::{fields, Field, Image, IMAGE, PADDING_WIDTH};
 use crate::rng::Rng;
@@ -145,19 +145,9 @@ fn unfit(out: &mut Writer, turn: usize) {
     let bytes = same_addresses(out).bytes();
     out.load(&bytes[..IMAGE - 1]);
     out.load(&bytes);
-    repair(out, place);
+    out.repair(place);
     save(out);
     out.load(&bytes);
-}
-
-/// Makes an entry fit again.
-fn repair(out: &mut Writer, place: Place) {
-    if place.table == "address" {
-        out.set_addresses();
-    } else {
-        let value = place.fit_value(&mut out.rng);
-        out.poke(place, value);
-    }
 }
 
 /// The image written into every room worth a look.

@@ -8,11 +8,13 @@ mod lecom;
 mod lengths;
 mod love;
 mod lucid;
+mod receivers;
 mod tables;
 mod unreadable;
 
 use crate::calls::Listed;
 use crate::entries::Entry;
+use crate::receivers::Receiver;
 use crate::rng::Rng;
 use crate::writer::{Line, Writer};
 
@@ -38,8 +40,10 @@ pub struct Section {
     needs: &'static [&'static str],
     /// Entries whose every number comes up in it.
     pub entries: &'static [Entry],
-    /// Whether its scripts depend on what was answered; the exchange clauses are checked on such scripts.
-    pub is_followed: bool,
+    /// Whether its scripts depend on what was answered.
+    is_followed: bool,
+    /// Whether the clauses of whole exchanges are checked on its scripts, for which the memory is peeked after each call.
+    pub is_exchange: bool,
     /// Writes the next scene.
     scene: fn(&mut Writer),
     /// Writes what stands at a script's end, after the last peeks.
@@ -71,14 +75,27 @@ impl Section {
     }
 }
 
+/// The entries of all receivers.
+const RECEIVER_ENTRIES: [Entry; 8] = [
+    Entry::Receive(Receiver::Datalink),
+    Entry::Receive(Receiver::Lecom),
+    Entry::Receive(Receiver::Love),
+    Entry::Receive(Receiver::Lucid),
+    Entry::Quiet(Receiver::Datalink),
+    Entry::Quiet(Receiver::Lecom),
+    Entry::Quiet(Receiver::Love),
+    Entry::Quiet(Receiver::Lucid),
+];
+
 /// All sections, in the order of their turns.
-pub const SECTIONS: [Section; 9] = [
+pub const SECTIONS: [Section; 10] = [
     Section {
         name: "tables",
         share: Share::Part(3),
         needs: &[],
         entries: &[Entry::Probe, Entry::Restart, Entry::Governor],
         is_followed: false,
+        is_exchange: false,
         scene: tables::scene,
         close: |_| {},
     },
@@ -88,6 +105,7 @@ pub const SECTIONS: [Section; 9] = [
         needs: &[],
         entries: &[],
         is_followed: false,
+        is_exchange: false,
         scene: unreadable::scene,
         close: unreadable::close,
     },
@@ -97,6 +115,7 @@ pub const SECTIONS: [Section; 9] = [
         needs: &["datalink"],
         entries: &[Entry::Datalink],
         is_followed: false,
+        is_exchange: false,
         scene: datalink::scene,
         close: |_| {},
     },
@@ -106,6 +125,7 @@ pub const SECTIONS: [Section; 9] = [
         needs: &["lecom"],
         entries: &[Entry::Lecom],
         is_followed: false,
+        is_exchange: false,
         scene: lecom::scene,
         close: |_| {},
     },
@@ -115,6 +135,7 @@ pub const SECTIONS: [Section; 9] = [
         needs: &["love"],
         entries: &[Entry::Love],
         is_followed: false,
+        is_exchange: false,
         scene: love::scene,
         close: |_| {},
     },
@@ -124,6 +145,7 @@ pub const SECTIONS: [Section; 9] = [
         needs: &["lucid"],
         entries: &[Entry::Lucid],
         is_followed: false,
+        is_exchange: false,
         scene: lucid::scene,
         close: |_| {},
     },
@@ -133,7 +155,18 @@ pub const SECTIONS: [Section; 9] = [
         needs: &["lucid"],
         entries: &[],
         is_followed: false,
+        is_exchange: false,
         scene: lengths::scene,
+        close: |_| {},
+    },
+    Section {
+        name: "receivers",
+        share: Share::Part(4),
+        needs: &["receive", "quiet", "restart", "poke", "peek"],
+        entries: &RECEIVER_ENTRIES,
+        is_followed: true,
+        is_exchange: false,
+        scene: receivers::scene,
         close: |_| {},
     },
     Section {
@@ -142,6 +175,7 @@ pub const SECTIONS: [Section; 9] = [
         needs: &[],
         entries: &[Entry::Save, Entry::Load],
         is_followed: false,
+        is_exchange: false,
         scene: image::scene,
         close: |_| {},
     },
@@ -151,6 +185,7 @@ pub const SECTIONS: [Section; 9] = [
         needs: &["datalink", "request", "step", "poke", "peek"],
         entries: &[Entry::Step],
         is_followed: true,
+        is_exchange: true,
         scene: exchanges::scene,
         close: |_| {},
     },
@@ -190,6 +225,9 @@ impl<'a> Scribe<'a> {
         let mut writer = Writer::new(self.listed, rng);
         if self.section.is_followed {
             writer.follow();
+        }
+        if self.section.is_exchange {
+            writer.peek_memory_always();
         }
         let most = self.left.min(SCRIPT_CALLS);
         while writer.calls() < most {
@@ -274,7 +312,7 @@ mod tests {
     #[test]
     fn followed_exchanges_end_in_both_ways() {
         let listed = all_calls();
-        let section = SECTIONS.iter().find(|section| section.is_followed).unwrap();
+        let section = SECTIONS.iter().find(|section| section.is_exchange).unwrap();
         let mut model = Model::new();
         let answers: Vec<String> = script(section, &listed, 1)
             .iter()

@@ -1,6 +1,7 @@
 //! Section `tables`: every entry's answer to fit and unfit tables, channels, rooms, codes and restarts.
 
 use super::dialect::send_valid;
+use super::receivers::{lend_any, quiet_any};
 use crate::card::{
     self, ranged_places, register_places, short_places, Place, MEMORY, MEMORY_END, MEMORY_PLACES, MEMORY_START,
     REGISTERS, WRITABLE_START,
@@ -39,7 +40,7 @@ pub fn scene(out: &mut Writer) {
 }
 
 /// A call of each entry of the card.
-const ENTRY_CALLS: [fn(&mut Writer); 9] = [
+const ENTRY_CALLS: [fn(&mut Writer); 11] = [
     |out| out.set_code(),
     |out| drop(out.call("restart")),
     reading,
@@ -47,6 +48,8 @@ const ENTRY_CALLS: [fn(&mut Writer); 9] = [
     send_valid::<Lecom>,
     send_valid::<Love>,
     send_valid::<Lucid>,
+    lend_any,
+    quiet_any,
     |out| drop(out.call(&format!("save {IMAGE}"))),
     load_same,
 ];

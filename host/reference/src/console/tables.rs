@@ -1,11 +1,34 @@
 //! The tables of a console line (docs/CONSOLE.md, "Tables"): `poke` and `peek`.
 
-use super::words::{signed, unsigned, Unreadable};
+use super::receivers::{receiver, Receiver};
+use super::words::{signed, split_word, unsigned, Unreadable};
 use super::write_entries;
 use crate::card::{by_channel, Card, Parameters, CHANNELS, CHANNEL_PARAMETERS, PENDING_NONE};
 
+/// What names a table.
+pub enum Table<'a> {
+    /// `part` and a dialect.
+    Part(&'static Receiver),
+    /// One word, known or not.
+    Named(&'a [u8]),
+}
+
+/// The first table, and the words after it.
+pub fn split_table(words: &[u8]) -> Result<(Table<'_>, &[u8]), Unreadable> {
+    let (name, words) = split_word(words);
+    if name != b"part" {
+        return Ok((Table::Named(name), words));
+    }
+    let (dialect, words) = split_word(words);
+    Ok((Table::Part(receiver(dialect)?), words))
+}
+
 /// Stores a value, given as a word, at a place of a table.
-pub fn poke(card: &mut Card, table: &[u8], place: usize, value: &[u8]) -> Result<(), Unreadable> {
+pub fn poke(card: &mut Card, table: Table, place: usize, value: &[u8]) -> Result<(), Unreadable> {
+    let table = match table {
+        Table::Part(receiver) => return poke_part(receiver, card, place, value),
+        Table::Named(name) => name,
+    };
     match table {
         b"address" => *address(card, place)? = unsigned(value)?,
         b"probe" => *entry(&mut card.memory[..CHANNELS], place)? = unsigned(value)?,
@@ -24,7 +47,14 @@ pub fn poke(card: &mut Card, table: &[u8], place: usize, value: &[u8]) -> Result
 }
 
 /// Writes a table's entries.
-pub fn peek(card: &Card, table: &[u8], out: &mut Vec<u8>) -> Result<(), Unreadable> {
+pub fn peek(card: &Card, table: Table, out: &mut Vec<u8>) -> Result<(), Unreadable> {
+    let table = match table {
+        Table::Part(receiver) => {
+            peek_part(receiver, card, out);
+            return Ok(());
+        }
+        Table::Named(name) => name,
+    };
     match table {
         b"address" => {
             let addresses = &card.addresses;
@@ -68,7 +98,7 @@ fn parameter(table: &mut Parameters, place: usize) -> Result<&mut u32, Unreadabl
 
 /// Stores an entry of the table `pending`.
 fn poke_pending(card: &mut Card, place: usize, value: &[u8]) -> Result<(), Unreadable> {
-    let pending = &mut card.pending;
+    let pending = &mut card.ports.pending;
     match place {
         0 => pending.kind = unsigned(value)?,
         1 => pending.address = unsigned(value)?,
@@ -80,7 +110,7 @@ fn poke_pending(card: &mut Card, place: usize, value: &[u8]) -> Result<(), Unrea
 
 /// Shows the table `pending`: the data only as far as NUM, and nothing but the kind if there is none.
 fn peek_pending(card: &Card, out: &mut Vec<u8>) {
-    let pending = &card.pending;
+    let pending = &card.ports.pending;
     write_entries(out, &[pending.kind]);
     if pending.kind != PENDING_NONE {
         out.push(b' ');
@@ -91,4 +121,20 @@ fn peek_pending(card: &Card, out: &mut Vec<u8>) {
             write_entries(out, &[byte]);
         }
     }
+}
+
+/// Stores an entry of a table `part`: the count, or a byte behind it.
+fn poke_part(receiver: &Receiver, card: &mut Card, place: usize, value: &[u8]) -> Result<(), Unreadable> {
+    let (count, bytes) = (receiver.part_mut)(&mut card.ports);
+    match place {
+        0 => *count = unsigned(value)?,
+        _ => *entry(bytes, place - 1)? = unsigned(value)?,
+    }
+    Ok(())
+}
+
+/// Shows a table `part`: the bytes collected, of a count above the longest frame the longest.
+fn peek_part(receiver: &Receiver, card: &Card, out: &mut Vec<u8>) {
+    let (count, bytes) = (receiver.part)(&card.ports);
+    write_entries(out, &bytes[..bytes.len().min(count.into())]);
 }

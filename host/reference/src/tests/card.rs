@@ -37,14 +37,14 @@ fn restart_goes_back_to_what_is_saved() {
     card.love[1] = 8;
     card.memory[0] = 9;
     card.memory[0x10] = 10;
-    card.pending.kind = PENDING_CHANGE;
-    card.pending.address = 0x1010;
+    card.ports.pending.kind = PENDING_CHANGE;
+    card.ports.pending.address = 0x1010;
     assert_eq!(restart(&mut card), Number::Silent);
     assert_eq!((card.buffer[5], card.operational[5], card.saved[5]), (3, 3, 3));
     assert_eq!((card.parameter[0][2], card.kept[0][2]), (6_000, 6_000));
     assert_eq!(card.demand, [65_535; 4]);
     assert_eq!((card.love[1], card.memory[0], card.memory[0x10]), (8, 255, 10));
-    assert_eq!(card.pending.kind, 0);
+    assert_eq!(card.ports.pending.kind, 0);
 }
 
 /// A card changed in one place.
@@ -56,9 +56,9 @@ fn changed(change: impl Fn(&mut Card)) -> Card {
 
 fn pending(kind: u8, address: u16, num: u8) -> Card {
     changed(|card| {
-        card.pending.kind = kind;
-        card.pending.address = address;
-        card.pending.num = num;
+        card.ports.pending.kind = kind;
+        card.ports.pending.address = address;
+        card.ports.pending.num = num;
     })
 }
 

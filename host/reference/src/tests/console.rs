@@ -129,10 +129,99 @@ fn poke_and_peek() {
     assert_eq!(output(change), "ok\nok\nok\nok\n9 65535 2 5 0\n12\n");
 }
 
+/// Document 02, M-100: "the number; if it is 0 or 1 then how many bytes were taken, and the frame's bytes".
+#[test]
+fn receivers() {
+    assert_eq!(
+        output("receive lecom 25 04 31\nreceive lecom 25 05 04 31"),
+        "1 2\n0 1 04 31 05\n"
+    );
+    assert_eq!(output("receive datalink 38 7e 83 7E"), "0 2 7E 83\n");
+    assert_eq!(
+        output("receive love 1024 02 03\nreceive lucid 259 1 2"),
+        "0 2 02 03\nerror expected receive DIALECT ROOM BYTES\n"
+    );
+    assert_eq!(
+        output("receive lucid 259 01 02 03 00\nreceive lucid 259"),
+        "0 4 01 02 03 00\n1 0\n"
+    );
+    for line in ["datalink 37", "lecom 24 04", "love 31", "lucid 258", "lucid 0 00"] {
+        assert_eq!(output(&format!("receive {line}")), "16\n");
+    }
+    assert_eq!(
+        output("receive love 32 02 30\nquiet love\nreceive love 32 03"),
+        "1 2\n1\n1 1\n"
+    );
+    assert_eq!(
+        output("receive love 32 02 30\nquiet lecom\nreceive love 32 03"),
+        "1 2\n1\n0 1 02 30 03\n"
+    );
+    assert_eq!(
+        output("poke part lucid 0 4\nquiet love\nreceive lecom 0"),
+        "ok\n12\n12\n"
+    );
+    for line in [
+        "receive",
+        "receive lecom",
+        "receive Love 32",
+        "receive luminary 259",
+        "receive lecom 1025",
+        "receive lecom 25 0",
+    ] {
+        assert_eq!(output(line), "error expected receive DIALECT ROOM BYTES\n", "{line}");
+    }
+    for line in ["quiet", "quiet x", "quiet love love", "quiet love 0"] {
+        assert_eq!(output(line), "error expected quiet DIALECT\n", "{line}");
+    }
+}
+
+/// Document 02, M-100: the tables `part DIALECT`.
+#[test]
+fn part_frames() {
+    assert_eq!(
+        output("peek part love\nreceive love 32 02 4C\npeek part love\npeek part lecom"),
+        "\n1 2\n2 76\n\n"
+    );
+    let old = "receive datalink 38 7E E3 00 00 10 F3\npeek part datalink\npoke part datalink 0 5\npeek part datalink";
+    assert_eq!(output(old), "0 6 7E E3 00 00 10 F3\n\nok\n126 227 0 0 16\n");
+    for (dialect, longest) in [("datalink", 38), ("lecom", 25), ("love", 32), ("lucid", 259)] {
+        let last = format!("poke part {dialect} {longest} 255\npoke part {dialect} 0 65535\npeek part {dialect}");
+        let shown = format!("{}255", "0 ".repeat(longest - 1));
+        assert_eq!(output(&last), format!("ok\nok\n{shown}\n"));
+        for line in [
+            format!("{} 0", longest + 1),
+            "0 65536".to_owned(),
+            "1 256".to_owned(),
+            "0 -1".to_owned(),
+        ] {
+            let poke = output(&format!("poke part {dialect} {line}"));
+            assert_eq!(poke, "error expected poke TABLE PLACE VALUE\n", "{line}");
+        }
+    }
+    for line in [
+        "part 0 0",
+        "part",
+        "part x 0 0",
+        "part love 0",
+        "part love 0 0 0",
+        "love love 0 0",
+    ] {
+        assert_eq!(
+            output(&format!("poke {line}")),
+            "error expected poke TABLE PLACE VALUE\n",
+            "{line}"
+        );
+    }
+    for line in ["part", "part x", "part love 0", "part part"] {
+        assert_eq!(output(&format!("peek {line}")), "error expected peek TABLE\n", "{line}");
+    }
+}
+
 #[test]
 fn help_lists_the_calls() {
     let help = output("help");
     assert!(help.starts_with("calls: probe CHANNEL CODE; restart; governor CHANNEL; datalink ROOM BYTES; "));
     assert!(help.ends_with("; poke TABLE PLACE VALUE; peek TABLE; help\n"));
-    assert_eq!(help.matches("; ").count(), 14);
+    assert!(help.contains("; lucid ROOM BYTES; receive DIALECT ROOM BYTES; quiet DIALECT; save ROOM; "));
+    assert_eq!(help.matches("; ").count(), 16);
 }

@@ -10,6 +10,7 @@ mod lecom;
 mod love;
 mod lucid;
 mod master;
+mod receivers;
 
 use crate::card::Card;
 use crate::numbers::Reply;

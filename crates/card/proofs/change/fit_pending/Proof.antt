@@ -15,14 +15,14 @@ returns c = simp (eq-eqb _ _ (c .if1 .taken))
 shared-slice-read-num : tie.Need-shared-slice-read-num
 shared-slice-read-num c = search needs
 
-shared-slice-read-address : tie.Need-shared-slice-read-address
-shared-slice-read-address c = search needs
+shared-slice-read-two-bytes : tie.Need-shared-slice-read-two-bytes
+shared-slice-read-two-bytes c = search needs
 
-shared-slice-read-address-2 : tie.Need-shared-slice-read-address-2
-shared-slice-read-address-2 c = search needs
+shared-slice-read-two-bytes-2 : tie.Need-shared-slice-read-two-bytes-2
+shared-slice-read-two-bytes-2 c = search needs
 
-address-requires : tie.Need-address-requires
-address-requires c κs = search needs
+two-bytes-requires : tie.Need-two-bytes-requires
+two-bytes-requires c κs = search needs
 
 bytes-named-requires : tie.Need-bytes-named-requires
 bytes-named-requires c κs = search needs
@@ -32,7 +32,7 @@ is-echoable-requires c κs = search needs
 
 returns-2 : tie.Need-returns-2
 unfolding fitPending
-returns-2 c = simp (ne-eqb _ _ (c .before .before .before .before .before .before .if1 .left)) (rw (← c .before .bytes-named .ensures, ← c .before .before .address .ensures) (c .is-echoable .ensures))
+returns-2 c = simp (ne-eqb _ _ (c .before .before .before .before .before .before .if1 .left)) (rw (← c .before .bytes-named .ensures, ← c .before .before .two-bytes .ensures) (c .is-echoable .ensures))
 
 pub fit-pending-spec : {M : Type 1} → statement M
 fit-pending-spec =
@@ -41,9 +41,9 @@ fit-pending-spec =
     shared-slice-read-kind
     returns
     shared-slice-read-num
-    shared-slice-read-address
-    shared-slice-read-address-2
-    address-requires
+    shared-slice-read-two-bytes
+    shared-slice-read-two-bytes-2
+    two-bytes-requires
     bytes-named-requires
     is-echoable-requires
     returns-2)

@@ -12,7 +12,7 @@ use borrow.Author.Needs.{needs}
 use Rattle.card.proofs.entries.restart_card.Statement.{statement}
 use Rattle.card.proofs.entries.restart_card.Tie as tie
 
-facts : (c : tie.Else1) → Fit (cardOf (c .before .before .before .before .before .before .before .before .args .words .now) (c .before .before .before .before .before .before .before .before .args .memory .now) (c .before .before .before .before .before .before .before .before .args .pending .now))
+facts : (c : tie.Else1) → Fit (cardOf (c .before .before .before .before .before .before .before .before .args .words .now) (c .before .before .before .before .before .before .before .before .args .memory .now) (c .before .before .before .before .before .before .before .before .args .ports .now))
 facts c = fit-facts _ (told-yes (c .before .is-fit .ensures) (c .if1 .left))
 
 is-fit-requires : tie.Need-is-fit-requires
@@ -40,8 +40,12 @@ fill-demands-requires c κs = omega (arith, facts (c .before .before .before .be
 fault-probes-requires : tie.Need-fault-probes-requires
 fault-probes-requires c κs = facts (c .before .before .before .before .before .before .before .before .before) .memory-length
 
-slice-write-pending : tie.Need-slice-write-pending
-slice-write-pending c = omega (arith, facts (c .before .before .before .before .before .before .before .before .before .before .before .before) .pending-length)
+drop-parts-requires : tie.Need-drop-parts-requires
+drop-parts-requires c κs = facts (c .before .before .before .before .before .before .before .before .before .before .before .before .before) .ports-length
+
+slice-write-ports : tie.Need-slice-write-ports
+slice-write-ports c =
+    omega (arith, facts (c .before .before .before .before .before .before .before .before .before .before .before .before .before .before .before .before) .ports-length)
 
 same-length-4 : tie.Need-same-length-4
 same-length-4 c = search needs
@@ -55,9 +59,10 @@ same-length-6 c = search needs
 returns-2 : tie.Need-returns-2
 unfolding restart guarded restarted dropped
 returns-2 c =
-    let moved = c .before .before .before .before .before .before .fill-demands .ensures ∙ ap fullDemands (c .before .before .before .before .before .before .before .before .before .before .restore .ensures) in
-    did-as _ _ (yes _ _ _ _ (told-yes (c .before .before .before .before .before .before .before .before .before .before .before .before .before .is-fit .ensures) (c .before .before .before .before .before .before .before .before .before .before .before .before .if1 .left)) refl)
-    (record { quiet = refl; numbered = refl; left = same-card moved (c .before .before .fault-probes .ensures) refl })
+    let b = c .before .before .before .before in
+    let moved = b .before .before .before .before .before .before .fill-demands .ensures ∙ ap fullDemands (b .before .before .before .before .before .before .before .before .before .before .restore .ensures) in
+    did-as _ _ (yes _ _ _ _ (told-yes (b .before .before .before .before .before .before .before .before .before .before .before .before .before .is-fit .ensures) (b .before .before .before .before .before .before .before .before .before .before .before .before .if1 .left)) refl)
+    (record { quiet = refl; numbered = refl; left = same-card moved (b .before .before .fault-probes .ensures) (ap dropped (c .before .before .drop-parts .ensures)) })
 
 pub restart-card-spec : {M : Type 1} → statement M
 restart-card-spec =
@@ -71,7 +76,8 @@ restart-card-spec =
     restore-requires
     fill-demands-requires
     fault-probes-requires
-    slice-write-pending
+    drop-parts-requires
+    slice-write-ports
     same-length-4
     same-length-5
     same-length-6

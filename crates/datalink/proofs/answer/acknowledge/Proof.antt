@@ -3,7 +3,7 @@ use Rattle.datalink.proofs.Frames.{Named, pending-named}
 use Rattle.datalink.specs.Answer.{acknowledged, applied, appliedTo}
 use Rattle.card.proofs.Replies.{did-silent, did-as, same-card}
 use Rattle.card.specs.Entries.{dropped}
-use Rattle.card.specs.Change.{addressOf}
+use Rattle.card.specs.Change.{twoBytes}
 use Rattle.card.specs.Layout.{kindAt, numAt, lowAddressAt, highAddressAt, dataAt}
 use Rattle.card.specs.Numbers.{nothingPending}
 use Rattle.wire.proofs.Buffers.{part-rest}
@@ -17,7 +17,7 @@ use Rattle.datalink.proofs.answer.acknowledge.Statement.{statement}
 use Rattle.datalink.proofs.answer.acknowledge.Tie as tie
 
 -- what the pending change names, once it is known that there is one
-named-bytes : (c : tie.Else1) → Named (getD (c .before .before .before .before .before .args .pending .now) kindAt 0) (getD (c .before .before .before .before .before .args .pending .now) numAt 0) (addressOf (getD (c .before .before .before .before .before .args .pending .now) lowAddressAt 0) (getD (c .before .before .before .before .before .args .pending .now) highAddressAt 0))
+named-bytes : (c : tie.Else1) → Named (getD (c .before .before .before .before .before .args .ports .now) kindAt 0) (getD (c .before .before .before .before .before .args .ports .now) numAt 0) (twoBytes (getD (c .before .before .before .before .before .args .ports .now) lowAddressAt 0) (getD (c .before .before .before .before .before .args .ports .now) highAddressAt 0))
 named-bytes c = pending-named _ (c .before .before .before .before .before .pre .pending-fit) (c .if1 .left)
 
 slice-read-kind : tie.Need-slice-read-kind
@@ -27,14 +27,14 @@ returns : tie.Need-returns
 unfolding acknowledged
 returns c = did-as _ _ (yes _ _ _ _ (eq-eqb _ _ (c .if1 .taken)) refl) (did-silent nothingPending _)
 
-slice-read-address : tie.Need-slice-read-address
-slice-read-address c = search needs
+slice-read-two-bytes : tie.Need-slice-read-two-bytes
+slice-read-two-bytes c = search needs
 
-slice-read-address-2 : tie.Need-slice-read-address-2
-slice-read-address-2 c = search needs
+slice-read-two-bytes-2 : tie.Need-slice-read-two-bytes-2
+slice-read-two-bytes-2 c = search needs
 
-address-requires : tie.Need-address-requires
-address-requires c κs = search needs
+two-bytes-requires : tie.Need-two-bytes-requires
+two-bytes-requires c κs = search needs
 
 cast-at : tie.Need-cast-at
 cast-at c = search needs
@@ -43,7 +43,7 @@ cast-a : tie.Need-cast-a
 cast-a c = search needs
 
 sub-a : tie.Need-sub-a
-sub-a c = omega (arith, named-bytes (c .before .before .before) .start, c .address .ensures)
+sub-a c = omega (arith, named-bytes (c .before .before .before) .start, c .two-bytes .ensures)
 
 slice-read-bytes-named : tie.Need-slice-read-bytes-named
 slice-read-bytes-named c = search needs
@@ -68,11 +68,11 @@ apply-requires c κs =
     let s = c .before .before .before .before .before .before .before .before .before .before .before .before .before .args in
     let w = named-bytes (c .before .before .before .before .before .before .before .before) in
     let n = c .before .before .before .bytes-named .ensures in
-    let l = length-drop dataAt (s .pending .now) in
-    rw (part-rest (s .pending .now) dataAt) (omega (arith, c .before .before .before .before .before .address .ensures, w .start, w .end), (omega (arith, w .most), λ k. omega (arith, w .pairs k)))
+    let l = length-drop dataAt (s .ports .now) in
+    rw (part-rest (s .ports .now) dataAt) (omega (arith, c .before .before .before .before .before .two-bytes .ensures, w .start, w .end), (omega (arith, w .most), λ k. omega (arith, w .pairs k)))
 
-slice-write-pending : tie.Need-slice-write-pending
-slice-write-pending c = search needs
+slice-write-ports : tie.Need-slice-write-ports
+slice-write-ports c = search needs
 
 same-length : tie.Need-same-length
 same-length c = search needs
@@ -85,7 +85,7 @@ unfolding acknowledged applied appliedTo dropped
 returns-2 c =
     let s = c .before .before .before .before .before .before .before .before .before .before .before .before .before .before .before .before .args in
     did-as _ _ (no _ _ _ _ (ne-eqb _ _ (c .before .before .before .before .before .before .before .before .before .before .before .if1 .left)) refl)
-    (record { quiet = refl; numbered = refl; left = same-card refl (c .before .before .apply .ensures ∙ rw (part-rest (s .pending .now) dataAt, c .before .before .before .before .before .before .before .before .address .ensures, c .before .before .before .before .before .before .bytes-named .ensures)) refl })
+    (record { quiet = refl; numbered = refl; left = same-card refl (c .before .before .apply .ensures ∙ rw (part-rest (s .ports .now) dataAt, c .before .before .before .before .before .before .before .before .two-bytes .ensures, c .before .before .before .before .before .before .bytes-named .ensures)) refl })
 
 pub acknowledge-spec : {M : Type 1} → statement M
 acknowledge-spec =
@@ -93,9 +93,9 @@ acknowledge-spec =
     (tie.spec
     slice-read-kind
     returns
-    slice-read-address
-    slice-read-address-2
-    address-requires
+    slice-read-two-bytes
+    slice-read-two-bytes-2
+    two-bytes-requires
     cast-at
     cast-a
     sub-a
@@ -106,7 +106,7 @@ acknowledge-spec =
     part-apply-start
     part-apply-end
     apply-requires
-    slice-write-pending
+    slice-write-ports
     same-length
     same-length-2
     returns-2)

@@ -31,7 +31,7 @@ echo-requires : tie.Need-echo-requires
 echo-requires c κs =
     let s = c .before .before .before .before .before .before .before .before .before .before .before in
     let k = subst (Sound (s .args .f .now)) (sym (s .pre .1) ∙ c .before .before .before .order3 .given .1) (asked-sound (s .args .f .now) _) in
-    ((s .pre .0 .0 .ia, k .0), (k .1 .0, (s .pre .0 .0 .pending-length, s .pre .0 .1)))
+    ((s .pre .0 .0 .ia, k .0), (k .1 .0, (s .pre .0 .0 .ports-length, s .pre .0 .1)))
 
 enum-told : tie.Need-enum-told
 enum-told c = search needs

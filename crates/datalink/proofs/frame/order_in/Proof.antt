@@ -20,14 +20,14 @@ kind-of-requires c κs = search needs
 long : (c : tie.Else1) → bareSize ≤ length (c .before .before .args .f .now)
 long c = omega (arith, form-facts _ (λ e. c .if1 .left (c .before .before .pre .0 ∙ e)) (c .before .before .pre .1))
 
-shared-slice-read-address : tie.Need-shared-slice-read-address
-shared-slice-read-address c = omega (arith, long (c .before .before))
+shared-slice-read-two-bytes : tie.Need-shared-slice-read-two-bytes
+shared-slice-read-two-bytes c = omega (arith, long (c .before .before))
 
-shared-slice-read-address-2 : tie.Need-shared-slice-read-address-2
-shared-slice-read-address-2 c = omega (arith, long (c .before .before .before))
+shared-slice-read-two-bytes-2 : tie.Need-shared-slice-read-two-bytes-2
+shared-slice-read-two-bytes-2 c = omega (arith, long (c .before .before .before))
 
-address-requires : tie.Need-address-requires
-address-requires c κs = search needs
+two-bytes-requires : tie.Need-two-bytes-requires
+two-bytes-requires c κs = search needs
 
 shared-slice-read-order-at : tie.Need-shared-slice-read-order-at
 shared-slice-read-order-at c = omega (arith, long (c .before .before .before .before .before))
@@ -40,7 +40,7 @@ unfolding kindIn numIn addressIn
 returns-2 c =
     let start = c .before .before .before .before .before .before .before .before in
     c .order-at .ensures
-    ∙ rw (c .before .before .before .before .before .kind-of .ensures, c .before .before .address .ensures, start .pre .0)
+    ∙ rw (c .before .before .before .before .before .kind-of .ensures, c .before .before .two-bytes .ensures, start .pre .0)
     (order-other (start .args .f .now) (λ e. c .before .before .before .before .before .before .if1 .left (start .pre .0 ∙ e)))
 
 pub order-in-spec : {M : Type 1} → statement M
@@ -49,9 +49,9 @@ order-in-spec =
     (tie.spec
     returns
     kind-of-requires
-    shared-slice-read-address
-    shared-slice-read-address-2
-    address-requires
+    shared-slice-read-two-bytes
+    shared-slice-read-two-bytes-2
+    two-bytes-requires
     shared-slice-read-order-at
     order-at-requires
     returns-2)

@@ -1,6 +1,6 @@
 -- `lucid::frame::pair` meets its contract. Assumes nothing.
 use native.Mathlib.Omega.{arith}
-use Rattle.card.specs.Change.{addressOf}
+use Rattle.card.specs.Change.{twoBytes}
 use Rattle.lucid.specs.Form.{numberAt}
 use borrow.Author.Needs.{needs}
 use Rattle.lucid.proofs.frame.pair.Statement.{statement}
@@ -15,14 +15,14 @@ add-high c = search needs
 shared-slice-read-high : tie.Need-shared-slice-read-high
 shared-slice-read-high c = search needs
 
-address-requires : tie.Need-address-requires
-address-requires c κs = search needs
+two-bytes-requires : tie.Need-two-bytes-requires
+two-bytes-requires c κs = search needs
 
 cast-result : tie.Need-cast-result
 cast-result c = search needs
 
 returns : tie.Need-returns
-unfolding numberAt addressOf
+unfolding numberAt twoBytes
 returns c = (omega arith, omega arith)
 
 pub pair-spec : {M : Type 1} → statement M
@@ -32,6 +32,6 @@ pair-spec =
     shared-slice-read-low
     add-high
     shared-slice-read-high
-    address-requires
+    two-bytes-requires
     cast-result
     returns)

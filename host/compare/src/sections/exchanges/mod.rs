@@ -8,18 +8,22 @@ use super::dialect::send_valid;
 use crate::card::{ranged_places, Place, IA_MOST, MEMORY, MEMORY_START};
 use crate::damage::damaged;
 use crate::frames::datalink::{
-    acknowledge, interrogate, message, valid_change, valid_interrogate, Datalink, CHANGE, CHANGE_BITS,
+    acknowledge, interrogate, message, valid_change, valid_interrogate, Datalink, CHANGE, CHANGE_BITS, START,
 };
 use crate::frames::{lecom::Lecom, love::Love, lucid::Lucid, Dialect};
 use crate::image::Image;
 use crate::master::ROUNDS;
 use crate::rng::Rng;
+use crate::streams::divided;
 use crate::text::{bytes_of, hex_words, words};
 use crate::writer::{Writer, ANSWER_ROOM};
 use request::Request;
 
 /// Steps of an exchange that are not refused: one sends the change, the others close a round each.
 const STEPS_MOST: usize = ROUNDS + 1;
+
+/// Calls that a frame is collected in, about.
+const COLLECTED_CALLS: usize = 4;
 
 /// How bad a line is, each entry in percent.
 struct Conditions {
@@ -33,6 +37,10 @@ struct Conditions {
     cramped: usize,
     /// An arrival's room is too short.
     refused: usize,
+    /// A frame comes byte by byte and is collected by the receiver.
+    collected: usize,
+    /// A byte of a frame that is to be collected is lost.
+    torn: usize,
     /// Another call comes between.
     busy: usize,
     /// A restart comes between.
@@ -50,6 +58,8 @@ const LOSSLESS: Conditions = Conditions {
     unheard: 0,
     cramped: 0,
     refused: 0,
+    collected: 10,
+    torn: 0,
     busy: 0,
     restarted: 0,
     moved: 0,
@@ -73,6 +83,8 @@ const ROUGH: Conditions = Conditions {
     unheard: 5,
     cramped: 15,
     refused: 15,
+    collected: 25,
+    torn: 10,
     busy: 30,
     restarted: 10,
     moved: 8,
@@ -217,17 +229,48 @@ impl<'w, 'a> Exchange<'w, 'a> {
         }
     }
 
-    /// The frame last sent arrives, seldom with too little room for its answer.
+    /// The frame last sent arrives, whole or byte by byte, seldom with too little room for its answer.
     fn arrive(&mut self) {
         let room = if self.chance(self.line.refused) {
             self.out.rng.below(ANSWER_ROOM)
         } else {
             ANSWER_ROOM
         };
-        let frame = self.frame.clone();
-        if let Some(answer) = self.send(room, &frame) {
-            self.answers.push(answer);
+        let frames = if self.out.has_receivers() && self.chance(self.line.collected) {
+            self.collect()
+        } else {
+            vec![self.frame.clone()]
+        };
+        for frame in frames {
+            let answer = self.send(room, &frame);
+            if frame == self.frame {
+                self.answers.extend(answer);
+            }
         }
+    }
+
+    /// The frame last sent comes in pieces behind other bytes, seldom without one of its own or with a restart between;
+    /// gives what the receiver makes of it.
+    fn collect(&mut self) -> Vec<Vec<u8>> {
+        let mut bytes = self.out.rng.bytes(2);
+        bytes.retain(|&byte| byte != START);
+        bytes.extend_from_slice(&self.frame);
+        if self.chance(self.line.torn) {
+            let place = self.out.rng.below(bytes.len());
+            bytes.remove(place);
+        }
+        let mut frames = Vec::new();
+        for call in divided(&mut self.out.rng, &bytes, COLLECTED_CALLS) {
+            if self.chance(self.line.restarted) {
+                self.out.call("restart");
+            }
+            let line = format!("receive {} {}{}", Datalink::CALL, Datalink::LONGEST, hex_words(&call));
+            let answer = self.out.call(&line).unwrap_or_default();
+            if let [b"0", _, frame @ ..] = &words(answer.as_bytes()).collect::<Vec<_>>()[..] {
+                frames.extend(bytes_of(frame.iter().copied()));
+            }
+        }
+        frames
     }
 
     /// Sends a Datalink frame; gives the bytes answered with number 0.

@@ -2,8 +2,9 @@
 
 mod lists;
 
-use crate::card::{ranged_places, SMALL_TABLES};
+use crate::card::{ranged_places, PART_TABLES, SMALL_TABLES};
 use crate::frames::{datalink::Datalink, lecom::Lecom, love::Love, lucid::Lucid, Dialect};
+use crate::receivers::Receiver;
 use crate::text::{hex_words, LINE_MOST};
 use crate::writer::Writer;
 use lists::{LIMIT_LINES, ODD_BYTES, ODD_LINES, ODD_NUMBERS};
@@ -19,7 +20,7 @@ const POKED_PLACES: usize = 3;
 /// Lengths of long lines: one below the longest, the longest, one above, and far above.
 const LONG_LENGTHS: [usize; 4] = [LINE_MOST, LINE_MOST + 1, LINE_MOST - 1, 70_000];
 /// Kinds of long lines.
-const LONG_KINDS: usize = 7;
+const LONG_KINDS: usize = 8;
 
 /// Writes the next scene.
 pub fn scene(out: &mut Writer) {
@@ -61,6 +62,9 @@ pub fn close(out: &mut Writer) {
 fn repair(out: &mut Writer) {
     out.set_addresses();
     out.set_pending(0, 0, 0);
+    for part in PART_TABLES {
+        out.set(part, 0, 0);
+    }
     for place in ranged_places() {
         if place.table != "address" && place.place < POKED_PLACES {
             let value = place.fit_value(&mut out.rng);
@@ -139,6 +143,9 @@ fn numbers(out: &mut Writer, turn: usize) {
         format!("poke memory {number} 1"),
         format!("poke memory {place} {number}"),
         format!("poke {table} {number} 1"),
+        format!("receive lecom {number} 04 31"),
+        format!("poke part love {number} 1"),
+        format!("poke part love {place} {number}"),
     ];
     out.rng.shuffle(&mut lines);
     for line in &lines[..LINES] {
@@ -191,6 +198,7 @@ fn long_line(kind: usize, length: usize) -> Vec<u8> {
         3 => (b"load", b" 00"),
         4 => (b"datalink 38", b" 7E"),
         5 => (b"request change 3 4112", b" 5A"),
+        6 => (b"receive lecom 25", b" 31"),
         _ => (b"x", b"x"),
     };
     let mut line = start.to_vec();
@@ -208,7 +216,8 @@ fn readable(out: &mut Writer) -> Vec<String> {
     let byte = rng.byte();
     let shown = rng.pick(&SMALL_TABLES);
     let poked = rng.pick(POKED_TABLES);
-    let line = match rng.below(14) {
+    let receiver = rng.pick(&Receiver::ALL).word();
+    let line = match rng.below(18) {
         0 => format!("probe {} {byte}", byte % 5),
         1 => "restart".to_owned(),
         2 => format!("governor {}", byte % 5),
@@ -226,6 +235,10 @@ fn readable(out: &mut Writer) -> Vec<String> {
         }
         11 => format!("step 38{}", hex_words(&rng.bytes(usize::from(byte % 4)))),
         12 => format!("poke {poked} {} {byte}", byte % 3),
+        13 => format!("receive {receiver} 259{}", hex_words(&rng.bytes(usize::from(byte % 4)))),
+        14 => format!("quiet {receiver}"),
+        15 => format!("poke part {receiver} {} {byte}", byte % 3),
+        16 => format!("peek part {receiver}"),
         _ => format!("peek {shown}"),
     };
     line.split(' ').map(str::to_owned).collect()

@@ -1,0 +1,9 @@
+pub mod Parts
+pub mod Gathering
+pub mod Replies
+pub mod Rows
+pub mod Laws
+pub mod Fits
+pub mod Ready
+pub mod Lists
+pub mod Computed
