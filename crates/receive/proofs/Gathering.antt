@@ -164,6 +164,12 @@ pub record Turn (d : Dialect) (n : ℕ) (row bytes frame row′ frame′ : List 
   pub holds : Held d count row′
   pub sofar : SoFar d n row bytes i count row′
 
+-- none of them
+pub skipped-none : (d : Dialect) (bytes : List ℕ) (n : ℕ) (row : List ℕ) → Held d n row → 0 < length bytes → Skipped d n row bytes 0 row
+skipped-none d bytes n row k h =
+    let z : n + 0 ≡ n = omega arith in
+    record { fewer = h; holds = subst (λ (j : ℕ). Held d j row) (sym z) k; sofar = subst (λ (j : ℕ). SoFar d n row bytes 0 j row) (sym z) (none-yet d n row bytes) }
+
 -- a turn begins with the bytes that are kept whatever they are
 pub after-skip : (d : Dialect) (n : ℕ) (row bytes frame row′ frame′ : List ℕ) (count i m : ℕ) (row″ : List ℕ) → Turn d n row bytes frame row′ frame′ count i → length row″ ≡ length row′ → Skipped d count row′ (part bytes i (length bytes)) m row″
     → Turn d n row bytes frame row″ frame′ (count + m) (i + m)

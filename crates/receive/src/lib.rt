@@ -204,6 +204,9 @@ fn skip(dialect: Dialect, ports: &mut [u8], n: usize, bytes: &[u8]) -> usize
 {
     let first = bytes_at(dialect);
     let most = sure(dialect, &ports[first..first + n]);
+    if most == 0 {
+        return 0;
+    }
     let m = lesser(most, bytes.len() - 1);
     wire::copy(&bytes[..m], ports, first + n);
     m
