@@ -153,7 +153,7 @@ uint8_t nk_lucid(uint32_t *words, size_t words_count, const uint8_t *memory, siz
  * docs/FIRMWARE.md has an interrupt's body.
  *
  * Worst cases, for a longest frame in one call: Datalink 1332 instructions and 328 bytes of stack, LECOM 3301 and 328, Love 1313
- * and 136, LucidControl 1465 and 328. For one byte 1461 at most; each byte more that is lent takes up to 28, in LECOM up to 95. */
+ * and 136, LucidControl 1465 and 328. For one byte 1430 at most; each byte more that is lent takes up to 28, in LECOM up to 95. */
 uint8_t nk_receive_datalink(const uint32_t *words, size_t words_count, const uint8_t *memory, size_t memory_count,
                             uint8_t *ports, size_t ports_count, const uint8_t *bytes, size_t bytes_count, uint8_t *frame,
                             size_t frame_count, size_t *taken, size_t *len);
