@@ -1,7 +1,7 @@
 -- Datalink's receiver: which part frames it can hold, and that it hands over every frame of its form. Assumes nothing.
 use mathlib.Core.Path.{_≡_, refl, sym, ap, _∙_, subst}
 use mathlib.Core.Bool.{Bool, true, false, _&&_, _||_, not}
-use mathlib.Core.List.{List, [], _∷_, _++_, append-nil}
+use mathlib.Core.List.{List, [], _∷_, _++_}
 use mathlib.Core.Logic._⊎_.{inl}
 use Prim.{tt}
 use Prim.Native.Nat.{ℕ, _+_, _≤_, _<_}
@@ -374,17 +374,6 @@ held-stages (x ∷ y ∷ z ∷ p) =
     go false k a = refl
 
 -- behind NUM bytes are kept until the last
-pub sure-none : (p : List ℕ) → held p ≡ true → Sure held longest p 0
-sure-none p h =
-    record {
-      kept = λ more l. subst (λ (x : List ℕ). held x ≡ true) (sym (append-none p more l)) h;
-      room = omega (arith, room p h);
-    }
-  where
-    append-none : (p more : List ℕ) → length more ≤ 0 → p ++ more ≡ p
-    append-none p [] l = append-nil p
-    append-none p (x ∷ more) l = let z : ⊥ = omega arith in absurd z
-
 pub sure-num : (p : List ℕ) (n : ℕ) → frameNumAt < length p → held p ≡ true → length p + n + 1 ≡ sizeOf (getD p secondAt 0) (getD p frameNumAt 0) → Sure held longest p n
 unfolding heldWithNum numIn choose
 sure-num [] n l h e = let z : ⊥ = omega arith in absurd z

@@ -1,7 +1,7 @@
 -- LucidControl's receiver: which part frames it can hold, and that it hands over every frame whose LEN is right. Assumes nothing.
 use mathlib.Core.Path.{_≡_, refl, sym, ap, _∙_, subst}
 use mathlib.Core.Bool.{Bool, true, false, _&&_, not}
-use mathlib.Core.List.{List, [], _∷_, _++_, append-nil}
+use mathlib.Core.List.{List, [], _∷_, _++_}
 use mathlib.Core.Logic._⊎_.{inl}
 use Prim.Native.Nat.{ℕ, _+_, _≤_, _<_}
 use native.Mathlib.Decide.{decLt}
@@ -151,14 +151,6 @@ held-few p t h = go (decLt lenAt (length p))
     go (no n) = omega arith
 
 -- behind LEN bytes are kept until the last
-pub sure-head : (p : List ℕ) → length p < shortest → held p ≡ true → Sure held longest p 0
-sure-head p l h =
-    record { kept = λ more k. subst (λ (x : List ℕ). held x ≡ true) (sym (append-none p more k)) h; room = omega arith }
-  where
-    append-none : (p more : List ℕ) → length more ≤ 0 → p ++ more ≡ p
-    append-none p [] l = append-nil p
-    append-none p (x ∷ more) l = let z : ⊥ = omega arith in absurd z
-
 pub sure-len : (p : List ℕ) (n : ℕ) → shortest ≤ length p → length p + n + 1 ≡ dataAt + getD p lenAt 0 → dataAt + getD p lenAt 0 ≤ longest → Sure held longest p n
 unfolding choose
 sure-len p n l e m =

@@ -1,7 +1,7 @@
 -- What the four dialects' receivers have in common, and where part frames stand in the row. Assumes nothing.
-use mathlib.Core.Path.{_≡_, refl, sym, subst}
+use mathlib.Core.Path.{_≡_, refl}
 use mathlib.Core.Bool.{true, false}
-use mathlib.Core.List.{List, [], _∷_, _++_, append-nil}
+use mathlib.Core.List.{List, [], _∷_, _++_}
 use Prim.Native.Nat.{ℕ, _+_, _-_, _≤_, _<_}
 use native.Mathlib.Omega.{arith}
 use borrow.Author.Tests.{leb-true, le-leb, lt-leb}
@@ -10,7 +10,6 @@ use lib.ListN.{length, drop, length-drop}
 use lib.Seq.{length-take-le}
 use Rattle.wire.specs.Buffer.{part}
 use Rattle.wire.proofs.Tests.{and-true}
-use Rattle.receiver.specs.Place.{Sure}
 use Rattle.receiver.specs.Step.Fate.{Kept}
 use Rattle.card.specs.Layout.{Card, pendingSize, rowSize}
 use Rattle.card.specs.Row.{countAt}
@@ -110,11 +109,3 @@ ready-within card e =
 -- what is known of a card that is ready
 pub ready-facts : (card : Card) → ready card ≡ true → Fit card × ((d : Dialect) → Held d (countAt (partAt d) (card .ports)) (card .ports))
 ready-facts card e = let t = ready-within card e in (fit-facts card (t .0), λ d. within-facts d (card .ports) (t .1 d))
-
--- no byte is sure
-pub sure-none : (d : Dialect) (p : List ℕ) → heldBy d p ≡ true → length p ≤ longestOf d → Sure (heldBy d) (longestOf d) p 0
-sure-none d p h l = record { kept = λ more k. subst (λ (x : List ℕ). heldBy d x ≡ true) (sym (none p more k)) h; room = omega arith }
-  where
-    none : (p more : List ℕ) → length more ≤ 0 → p ++ more ≡ p
-    none p [] k = append-nil p
-    none p (x ∷ more) k = let z : ⊥ = omega arith in absurd z

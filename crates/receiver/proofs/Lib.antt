@@ -4,4 +4,5 @@ pub mod Origin
 pub mod Stored
 pub mod Chunks
 pub mod Divided
+pub mod Sure
 pub mod Computed

@@ -1,5 +1,6 @@
 -- `receive::sure` meets its contract. Assumes nothing.
-use Rattle.receive.proofs.Parts.{sure-none}
+use Rattle.receiver.proofs.Sure.{sure-none}
+use Rattle.receive.specs.Parts.{longestOf, heldBy}
 use borrow.Author.Needs.{needs}
 use Rattle.receive.proofs.sure.Statement.{statement}
 use Rattle.receive.proofs.sure.Tie as tie
@@ -26,10 +27,10 @@ returns : tie.Need-returns
 returns c = rw (c .before .enum-told .given .1) (c .sure .ensures)
 
 returns-2 : tie.Need-returns-2
-returns-2 c = let s = c .before .before .before in sure-none (s .args .dialect) (s .args .part .now) (s .pre .0) (s .pre .1)
+returns-2 c = let s = c .before .before .before in sure-none (heldBy (s .args .dialect)) (longestOf (s .args .dialect)) (s .args .part .now) (s .pre .0) (s .pre .1)
 
 returns-3 : tie.Need-returns-3
-returns-3 c = let s = c .before .before .before in sure-none (s .args .dialect) (s .args .part .now) (s .pre .0) (s .pre .1)
+returns-3 c = let s = c .before .before .before in sure-none (heldBy (s .args .dialect)) (longestOf (s .args .dialect)) (s .args .part .now) (s .pre .0) (s .pre .1)
 
 returns-4 : tie.Need-returns-4
 returns-4 c = rw (c .before .enum-told4 .given .1) (c .sure2 .ensures)

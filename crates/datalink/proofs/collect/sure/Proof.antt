@@ -1,12 +1,15 @@
 -- `datalink::collect::sure` meets its contract. Assumes nothing.
 use native.Mathlib.Omega.{arith}
-use Rattle.datalink.proofs.Receiver.{sure-none, sure-num, missing}
+use Rattle.datalink.proofs.Receiver.{room, sure-num, missing}
+use Rattle.receiver.proofs.Sure.{sure-none}
+use Rattle.datalink.specs.Form.{longest}
+use Rattle.datalink.specs.Receiver.{held}
 use borrow.Author.Needs.{needs}
 use Rattle.datalink.proofs.collect.sure.Statement.{statement}
 use Rattle.datalink.proofs.collect.sure.Tie as tie
 
 returns : tie.Need-returns
-returns c = search (sure-none, needs)
+returns c = let s = c .before .before in sure-none held longest (s .args .part .now) (s .pre) (omega (arith, room (s .args .part .now) (s .pre)))
 
 shared-slice-read-size : tie.Need-shared-slice-read-size
 shared-slice-read-size c = search needs

@@ -1,12 +1,15 @@
 -- `lucid::collect::sure` meets its contract. Assumes nothing.
 use native.Mathlib.Omega.{arith}
-use Rattle.lucid.proofs.Receiver.{sure-head, sure-len, missing}
+use Rattle.lucid.proofs.Receiver.{sure-len, missing}
+use Rattle.receiver.proofs.Sure.{sure-none}
+use Rattle.lucid.specs.Form.{longest}
+use Rattle.lucid.specs.Receiver.{held}
 use borrow.Author.Needs.{needs}
 use Rattle.lucid.proofs.collect.sure.Statement.{statement}
 use Rattle.lucid.proofs.collect.sure.Tie as tie
 
 returns : tie.Need-returns
-returns c = sure-head _ (omega arith) (c .before .before .pre)
+returns c = let s = c .before .before in sure-none held longest (s .args .part .now) (s .pre) (omega arith)
 
 shared-slice-read-size : tie.Need-shared-slice-read-size
 shared-slice-read-size c = search needs
