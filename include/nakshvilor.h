@@ -117,8 +117,8 @@ uint8_t nk_governor(const uint32_t *words, size_t words_count, const uint8_t *me
  * and its length to *len, which is 0 where nothing is to be sent. A frame above the dialect's longest is NK_FRAME_FORM with
  * nothing to be sent.
  *
- * Worst cases: Datalink 772 instructions and 104 bytes of stack, LECOM 860 and 120, Love 837 and 120, LucidControl 614 and
- * 104. */
+ * Worst cases: Datalink 772 instructions and 120 bytes of stack, LECOM 840 and 376, Love 709 and 400, LucidControl 606 and
+ * 88. */
 uint8_t nk_datalink(const uint32_t *words, size_t words_count, uint8_t *memory, size_t memory_count, uint8_t *ports,
                     size_t ports_count, const uint8_t *frame, size_t frame_count, uint8_t *answer, size_t answer_count,
                     size_t *len);
@@ -181,7 +181,7 @@ uint8_t nk_quiet_lucid(const uint32_t *words, size_t words_count, const uint8_t 
                        uint8_t *ports, size_t ports_count);
 
 /* Writes the saved image: NK_ANSWERED with NK_IMAGE bytes at the front of `image`, NK_CARD_UNFIT, or NK_BUFFER_SHORT.
- * Worst case: 2048 instructions, 72 bytes of stack. */
+ * Worst case: 2040 instructions, 72 bytes of stack. */
 uint8_t nk_write_image(const uint32_t *words, size_t words_count, const uint8_t *memory, size_t memory_count,
                        const uint8_t *ports, size_t ports_count, uint8_t *image, size_t image_count, size_t *len);
 

@@ -2,15 +2,16 @@
 -- Rests on the kit's lib.Ieee for what f32 arithmetic is. Assumes nothing.
 use Prim.Native.Nat.{ℕ, _*_, _-_, _<_}
 use mathlib.Core.Path.{_≡_, refl}
-use mathlib.Core.Bool.{Bool, true, false, not, cond}
+use mathlib.Core.Bool.{Bool, true, false, _&&_, not, cond}
 use lib.IntN.{pos}
 use lib.Dec.{T, eqb, eqb→eq, ltb}
 use lib.Count.{trailingZeros}
 use lib.Ieee.{Float, nan, inf, fin, binary32, odd, round, units, size, span, climb, sum, add, neg, sub, mul, ofInt, ofBits, ofFields, toBits, fits, up, down}
 use Rattle.wire.specs.Choose.{choose}
+use Rattle.wire.proofs.Sweep.{and-left, and-right, at}
 use Rattle.card.specs.Probe.{faultCode}
 use Rattle.card.specs.Governor.{degreesOf, zeroCode}
-use Rattle.card.proofs.Sweep.{both, both-left, both-right, sameZ, sameZ→eq, at}
+use Rattle.card.proofs.Integers.{sameZ, sameZ→eq}
 
 -- two floats are the same data, as a test
 abbrev sameB : Bool → Bool → Bool
@@ -28,7 +29,7 @@ sameF nan y = false
 sameF (inf s) y = false
 sameF (fin s m e) nan = false
 sameF (fin s m e) (inf t) = false
-sameF (fin s m e) (fin t n d) = both (sameB s t) (both (eqb m n) (sameZ e d))
+sameF (fin s m e) (fin t n d) = sameB s t && (eqb m n && sameZ e d)
 
 pub sameF→eq : (x y : Float) → T (sameF x y) → x ≡ y
 sameF→eq nan y t = absurd t
@@ -36,8 +37,8 @@ sameF→eq (inf s) y t = absurd t
 sameF→eq (fin s m e) nan t = absurd t
 sameF→eq (fin s m e) (inf u) t = absurd t
 sameF→eq (fin s m e) (fin u n d) t =
-    let r = both-right (sameB s u) (both (eqb m n) (sameZ e d)) t in
-    cc (sameB→eq s u (both-left (sameB s u) (both (eqb m n) (sameZ e d)) t), eqb→eq m n (both-left (eqb m n) (sameZ e d) r), sameZ→eq e d (both-right (eqb m n) (sameZ e d) r))
+    let r = and-right (sameB s u) (eqb m n && sameZ e d) t in
+    cc (sameB→eq s u (and-left (sameB s u) (eqb m n && sameZ e d) t), eqb→eq m n (and-left (eqb m n) (sameZ e d) r), sameZ→eq e d (and-right (eqb m n) (sameZ e d) r))
 
 -- the bits of 0.5 and of 40.0
 abbrev pub halfBits : ℕ
@@ -57,7 +58,7 @@ exact code h =
 abbrev pub isHalf : ℕ → Float → Bool
 isHalf code nan = false
 isHalf code (inf s) = false
-isHalf code (fin s m e) = both (sameB s (ltb code zeroCode)) (eqb (m * up e * 2) (cond (ltb code zeroCode) (zeroCode - code) (code - zeroCode) * down e))
+isHalf code (fin s m e) = sameB s (ltb code zeroCode) && eqb (m * up e * 2) (cond (ltb code zeroCode) (zeroCode - code) (code - zeroCode) * down e)
 
 pub degrees-half : (code : ℕ) → code < faultCode → T (isHalf code (degreesOf code))
 unfolding degreesOf choose odd trailingZeros

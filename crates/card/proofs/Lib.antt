@@ -4,7 +4,7 @@ pub mod Ranges
 pub mod Copies
 pub mod Facts
 pub mod Replies
-pub mod Sweep
+pub mod Integers
 pub mod Floats
 pub mod Governed
 pub mod Probes

@@ -11,11 +11,12 @@ use native.Mathlib.Omega.{arith}
 use Rattle.wire.specs.Choose.{choose}
 use Rattle.wire.specs.Word.{minus}
 use Rattle.wire.proofs.Cases.{by-choice}
+use Rattle.wire.proofs.Sweep.{at}
 use Rattle.card.specs.Fitness.{inSpan}
 use Rattle.card.specs.Probe.{faultCode, tenthsPerCode, tenthsBelow, tenthsOf, readingOf}
 use Rattle.card.specs.declared.probe.Reading.{Reading}
 use Rattle.card.specs.declared.probe.Reading.the-variants.{Temperature, Fault}
-use Rattle.card.proofs.Sweep.{sameZ, sameZ→eq, at}
+use Rattle.card.proofs.Integers.{sameZ, sameZ→eq}
 
 -- the warmest temperature, of code 254
 abbrev pub tenthsMost : ℕ

@@ -1,7 +1,7 @@
 -- Laws of specs/Figure.antt: figures and their characters, pairs of characters. Assumes nothing.
-use Prim.Native.Nat.{ℕ, zero, suc, _+_, _-_, _*_, _/_, _%_, _≤_, _<_}
+use Prim.Native.Nat.{ℕ, zero, suc, _+_, _-_, _*_, _%_, _≤_, _<_}
 use mathlib.Core.Path.{_≡_, refl, sym, ap, _∙_}
-use mathlib.Core.Bool.{Bool, true, false, _&&_, _||_, not, and-assoc, and-false}
+use mathlib.Core.Bool.{Bool, true, false, _&&_, not, and-assoc, and-false}
 use mathlib.Core.List.{List, [], _∷_, _++_}
 use native.Mathlib.Nat.{not-suc-le-zero}
 use native.Mathlib.Numerals.{add-one}
@@ -10,21 +10,15 @@ use native.Mathlib.Decide.{decLt}
 use lib.Dec.{leb, ltb, eqb}
 use lib.ListN.{length, getD, drop, drop-of-length-le}
 use lib.Seq.{drop-cons}
-use borrow.Author.Tests.{leb-true, ltb-true, le-leb, lt-leb, lt-ltb, le-ltb, ne-eqb}
+use borrow.Author.Tests.{ltb-true, le-leb, lt-leb, lt-ltb, le-ltb, ne-eqb}
 use Rattle.wire.specs.Choose.{choose}
 use Rattle.wire.proofs.Cases.{cases, by-choice}
 use Rattle.wire.specs.Buffer.{part}
 use Rattle.wire.proofs.Buffers.{part-append, length-part, getD-part}
 use Rattle.wire.proofs.Tests.{and-true, and-true-right, both}
 use Rattle.wire.specs.Length.{between}
-use Rattle.figures.specs.Figure.{zeroChar, nineChar, upperA, upperF, lowerA, lowerF, base, hex, none, noByte, figureOf, charOf, allFigures, pairByte}
-
--- a range's two bounds
-pub in-range : (lo hi b : ℕ) → between lo hi b ≡ true → (lo ≤ b) × (b ≤ hi)
-unfolding between
-in-range lo hi b h =
-    let t = and-true (leb lo b) (leb b hi) h in
-    (leb-true lo b (t .0), leb-true b hi (t .1))
+use Rattle.wire.proofs.Lengths.{between-facts}
+use Rattle.figures.specs.Figure.{zeroChar, nineChar, upperA, upperF, lowerA, lowerF, base, none, noByte, figureOf, charOf, allFigures, pairByte}
 
 -- within both bounds
 in-range-yes : (lo hi b : ℕ) → lo ≤ b → b ≤ hi → between lo hi b ≡ true
@@ -98,52 +92,6 @@ pair-figures limit high low = by (decLt (figureOf high) limit) (decLt (figureOf 
     by (yes h) (no l) = simp (lt-ltb (figureOf high) limit h, le-ltb (figureOf low) limit (omega arith), lt-leb limit (figureOf high) h, le-leb limit (figureOf low) (omega arith))
     by (no h) _ = simp (le-ltb (figureOf high) limit (omega arith), le-leb limit (figureOf high) (omega arith))
 
--- two characters that are not both figures are no byte
-pub no-pair : (limit high low : ℕ) → (ltb (figureOf high) limit && ltb (figureOf low) limit) ≡ false → noByte ≡ pairByte limit high low
-unfolding pairByte choose
-no-pair limit high low e = by (decLt (figureOf high) limit) (decLt (figureOf low) limit)
-  where
-    by : Dec (figureOf high < limit) → Dec (figureOf low < limit) → noByte ≡ pairByte limit high low
-    by (yes h) (yes l) = let t = simp (lt-ltb (figureOf high) limit h, lt-ltb (figureOf low) limit l) at e in cc
-    by (yes h) (no l) = simp (lt-leb limit (figureOf high) h, le-leb limit (figureOf low) (omega arith))
-    by (no h) _ = simp (le-leb limit (figureOf high) (omega arith))
-
--- two figures are a byte
-pub a-pair : (limit high low : ℕ) → ltb (figureOf high) limit ≡ true → ltb (figureOf low) limit ≡ true
-    → base * (figureOf high % base) + figureOf low % base ≡ pairByte limit high low
-unfolding pairByte choose
-a-pair limit high low h l = simp (lt-leb limit (figureOf high) (ltb-true _ _ h), lt-leb limit (figureOf low) (ltb-true _ _ l))
-
--- a hex figure of either case is in one of three rows of characters
-pub hex-rows : (b : ℕ) → (between 48 57 b || (between 65 70 b || between 97 102 b)) ≡ ltb (figureOf b) hex
-unfolding figureOf
-hex-rows b =
-    by-choice rows _ _ _
-    (λ d. rw d (sym (lt-ltb (b - 48) hex (omega (arith, in-range 48 57 b d)))))
-    (λ d. by-choice rows _ _ _
-    (λ u. rw (d, u) (sym (lt-ltb (10 + (b - 65)) hex (omega (arith, in-range 65 70 b u)))))
-    (λ u. by-choice rows _ _ _
-    (λ l. rw (d, u, l) (sym (lt-ltb (16 + (10 + (b - 97))) hex (omega (arith, in-range 97 102 b l)))))
-    (λ l. rw (d, u, l))))
-  where
-    rows : ℕ → Type 0
-    rows n = (between 48 57 b || (between 65 70 b || between 97 102 b)) ≡ ltb n hex
-
--- its value, from its two halves
-pub hex-halves : (b : ℕ) → ltb (figureOf b) hex ≡ true → b % 16 + 9 * (b / 64) ≡ figureOf b % base
-unfolding figureOf
-hex-halves b =
-    by-choice halves _ _ _
-    (λ d _. omega (arith, in-range 48 57 b d))
-    (λ _. by-choice halves _ _ _
-    (λ u _. omega (arith, in-range 65 70 b u))
-    (λ _. by-choice halves _ _ _
-    (λ l _. omega (arith, in-range 97 102 b l))
-    (λ _ h. cc)))
-  where
-    halves : ℕ → Type 0
-    halves n = ltb n hex ≡ true → b % 16 + 9 * (b / 64) ≡ n % base
-
 -- the two characters of a list from index i on are figures exactly if they are a byte
 pub pair-part : (limit : ℕ) (s : List ℕ) (i : ℕ) → i + 1 < length s → allFigures limit (part s i (i + 2)) ≡ not (eqb (pairByte limit (getD s i 0) (getD s (i + 1) 0)) noByte)
 pair-part limit s i h =
@@ -158,9 +106,9 @@ all-parts limit s a b e h k = ap (allFigures limit) (sym (part-append s a b e h 
 pub figure-above : (b limit : ℕ) → limit ≤ none → ltb (figureOf b) limit ≡ true → zeroChar ≤ b
 unfolding figureOf
 figure-above b limit m h =
-    by-choice above _ _ _ (λ d _. omega (arith, in-range zeroChar nineChar b d))
-    (λ _. by-choice above _ _ _ (λ u _. omega (arith, in-range upperA upperF b u))
-    (λ _. by-choice above _ _ _ (λ l _. omega (arith, in-range lowerA lowerF b l))
+    by-choice above _ _ _ (λ d _. omega (arith, between-facts zeroChar nineChar b d))
+    (λ _. by-choice above _ _ _ (λ u _. omega (arith, between-facts upperA upperF b u))
+    (λ _. by-choice above _ _ _ (λ l _. omega (arith, between-facts lowerA lowerF b l))
     (λ _ l. omega arith)))
     (ltb-true (figureOf b) limit h)
   where

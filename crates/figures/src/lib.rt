@@ -1,13 +1,15 @@
 // Hex figures, decimal figures and signed words: read from characters and written as characters.
+pub mod sheet;
+
+use sheet::Sheet;
+use sheet::figure;
 ghost use mathlib.Core.Path.{_≡_};
-ghost use mathlib.Core.Bool.{true};
-ghost use Prim.Native.Nat.{_+_, _%_, _<_, _≤_};
-ghost use lib.Dec.{ltb};
+ghost use Prim.Native.Nat.{_+_, _<_, _≤_};
 ghost use lib.ListN.{length};
 ghost use Rattle.wire.specs.Choose.{choose};
 ghost use Rattle.wire.specs.Buffer.{put};
-ghost use Rattle.wire.specs.Length.{between};
-ghost use Rattle.figures.specs.Figure.{base, hex, figureOf, charOf, allFigures, pairByte, pairOf};
+ghost use Rattle.figures.specs.Figure.{base, charOf, allFigures, pairByte, pairOf};
+ghost use Rattle.figures.specs.Sheet.{IsSheet, IsAlphabet};
 ghost use Rattle.figures.specs.Decimal.{digits, sizeOf, readOf, longestValue};
 ghost use Rattle.figures.specs.Signed.{isNegative, magnitude, withSign, longestText, textOf, figuresOf, parsedOf};
 
@@ -27,16 +29,14 @@ const HEX_BASE: u8 = 16;
 
 const PAIR_BASE: u32 = HEX_BASE as u32;
 
-// Letters are from this character on, decimal figures before it. The low half of A and of a is 1, the value 9 more.
-const LETTERS: u8 = 64;
+// A character for each value of a hex figure.
+type Alphabet = [u8; 16];
 
-const LETTER_MORE: u8 = 9;
+// The upper-case characters of the values 0 to 15.
+const ALPHABET: Alphabet = *b"0123456789ABCDEF";
 
-// What lower case adds to a figure.
-const LOWER: u8 = 16;
-
-// The mark for a character that is no figure.
-const NONE: u8 = 32;
+// The character of the decimal figure 0; the others follow it.
+pub const ZERO: u8 = b'0';
 
 // The mark for two characters that are no byte.
 pub const NO_BYTE: u32 = 256;
@@ -45,31 +45,16 @@ pub const NO_BYTE: u32 = 256;
 pub const NO_VALUE: u64 = u64::MAX;
 
 // The sign before a negative number's figures.
-const MINUS: u8 = b'-';
+pub const MINUS: u8 = b'-';
 
 // The words from here on are the negative numbers.
 const HALF: u32 = u32::MAX / 2 + 1;
 
-fn in_range(lo: u8, hi: u8, b: u8) -> bool
-    ensures { λ r. ⌜ r ≡ between lo hi b ⌝ }
+// A function, so that its rule is a promise.
+fn alphabet() -> Alphabet
+    ensures { λ r. ⌜ IsAlphabet r ⌝ }
 {
-    (lo <= b) & (b <= hi)
-}
-
-// What a received character means as a figure. Every frame is read through it; `hex_byte`, for lines of text, keeps to its meaning.
-pub fn figure(b: u8) -> u8
-    ensures { λ r. ⌜ r ≡ figureOf b ⌝ }
-{
-    if in_range(b'0', b'9', b) {
-        return b - b'0';
-    }
-    if in_range(b'A', b'F', b) {
-        return DECIMAL + (b - b'A');
-    }
-    if in_range(b'a', b'f', b) {
-        return LOWER + (DECIMAL + (b - b'a'));
-    }
-    NONE
+    ALPHABET
 }
 
 // The upper-case character of a figure's value.
@@ -77,20 +62,19 @@ pub fn figure_char(v: u8) -> u8
     requires { ⌜ v < base ⌝ }
     ensures { λ r. ⌜ r ≡ charOf v ⌝ }
 {
-    if v < DECIMAL {
-        return b'0' + v;
-    }
-    b'A' + (v - DECIMAL)
+    let characters = alphabet();
+    characters[v as usize]
 }
 
-// Whether every character of s is a figure below limit. No early exit: so the loop runs on several characters at once.
-pub fn all_figures(s: &[u8], limit: u8) -> bool
+// Whether every character of s is a figure below limit. An early exit would take more instructions for each character.
+pub fn all_figures(sheet: &Sheet, s: &[u8], limit: u8) -> bool
+    requires { ⌜ IsSheet (now sheet) ⌝ }
     ensures { λ r. ⌜ r ≡ allFigures limit (now (s .entry)) ⌝ }
 {
     let mut ok = true;
     let mut i = 0;
     while i < s.len() {
-        let here = figure(s[i]);
+        let here = figure(sheet, s[i]);
         ok = ok & (here < limit);
         i += 1;
     }
@@ -98,44 +82,19 @@ pub fn all_figures(s: &[u8], limit: u8) -> bool
 }
 
 // The byte that two characters are, both of them figures below limit, or NO_BYTE.
-pub fn pair_byte(high: u8, low: u8, limit: u8) -> u32
+pub fn pair_byte(sheet: &Sheet, high: u8, low: u8, limit: u8) -> u32
+    requires { ⌜ IsSheet (now sheet) ⌝ }
     ensures { λ r. ⌜ r ≡ pairByte limit high low ⌝ }
 {
-    let h = figure(high);
+    let h = figure(sheet, high);
     if limit <= h {
         return NO_BYTE;
     }
-    let l = figure(low);
+    let l = figure(sheet, low);
     if limit <= l {
         return NO_BYTE;
     }
     PAIR_BASE * ((h % HEX_BASE) as u32) + ((l % HEX_BASE) as u32)
-}
-
-// Whether a character is a hex figure of either case. It branches nowhere, since nothing foretells the figures of a line.
-fn is_hex(b: u8) -> bool
-    ensures { λ r. ⌜ r ≡ ltb (figureOf b) hex ⌝ }
-{
-    in_range(b'0', b'9', b) | (in_range(b'A', b'F', b) | in_range(b'a', b'f', b))
-}
-
-// The value of a hex figure: its low half, and more for a letter.
-fn hex_value(b: u8) -> u8
-    requires { ⌜ ltb (figureOf b) hex ≡ true ⌝ }
-    ensures { λ r. ⌜ r ≡ figureOf b % base ⌝ }
-{
-    b % HEX_BASE + LETTER_MORE * (b / LETTERS)
-}
-
-// The byte that two hex figures of either case are, or NO_BYTE.
-pub fn hex_byte(high: u8, low: u8) -> u32
-    ensures { λ r. ⌜ r ≡ pairByte hex high low ⌝ }
-{
-    let right = is_hex(high) & is_hex(low);
-    if !right {
-        return NO_BYTE;
-    }
-    PAIR_BASE * (hex_value(high) as u32) + (hex_value(low) as u32)
 }
 
 // Writes the two upper-case characters of v.
@@ -156,7 +115,7 @@ pub fn put_digits(out: &mut [u8], at: usize, k: usize, n: u32)
     let mut j = k;
     while 0 < j {
         j -= 1;
-        out[at + j] = figure_char((v % BASE) as u8);
+        out[at + j] = ZERO + (v % BASE) as u8;
         v /= BASE;
     }
 }
@@ -175,14 +134,15 @@ pub fn size(n: u32) -> usize
 }
 
 // The value of a run of decimal figures, or NO_VALUE where a character is none.
-pub fn value(s: &[u8]) -> u64
+pub fn value(sheet: &Sheet, s: &[u8]) -> u64
+    requires { ⌜ IsSheet (now sheet) ⌝ }
     requires { ⌜ length (now s) ≤ longestValue ⌝ }
     ensures { λ r. ⌜ r ≡ readOf (now (s .entry)) ⌝ }
 {
     let mut v: u64 = 0;
     let mut i = 0;
     while i < s.len() {
-        let x = figure(s[i]);
+        let x = figure(sheet, s[i]);
         if DECIMAL <= x {
             return NO_VALUE;
         }
@@ -254,14 +214,15 @@ pub enum Parsed {
 }
 
 // At least one decimal figure and nothing else, read with a sign.
-fn parse_figures(s: &[u8], negative: bool, bound: u32) -> Parsed
+fn parse_figures(sheet: &Sheet, s: &[u8], negative: bool, bound: u32) -> Parsed
+    requires { ⌜ IsSheet (now sheet) ⌝ }
     requires { ⌜ length (now s) ≤ longestValue ⌝ }
     ensures { λ r. ⌜ r ≡ figuresOf bound negative (now (s .entry)) ⌝ }
 {
     if s.len() == 0 {
         return Parsed::Wrong;
     }
-    let v = value(s);
+    let v = value(sheet, s);
     if (bound as u64) < v {
         return Parsed::Wrong;
     }
@@ -269,7 +230,8 @@ fn parse_figures(s: &[u8], negative: bool, bound: u32) -> Parsed
 }
 
 // An optional minus, then at least one decimal figure and nothing else, with a magnitude of at most bound.
-pub fn parse(s: &[u8], bound: u32) -> Parsed
+pub fn parse(sheet: &Sheet, s: &[u8], bound: u32) -> Parsed
+    requires { ⌜ IsSheet (now sheet) ⌝ }
     requires { ⌜ length (now s) ≤ longestValue ⌝ }
     ensures { λ r. ⌜ r ≡ parsedOf bound (now (s .entry)) ⌝ }
 {
@@ -277,7 +239,7 @@ pub fn parse(s: &[u8], bound: u32) -> Parsed
         return Parsed::Wrong;
     }
     if s[0] == MINUS {
-        return parse_figures(&s[1..], true, bound);
+        return parse_figures(sheet, &s[1..], true, bound);
     }
-    parse_figures(s, false, bound)
+    parse_figures(sheet, s, false, bound)
 }

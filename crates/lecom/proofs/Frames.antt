@@ -1,7 +1,7 @@
 -- What is known of a frame: bounds of its places, and that what it asks is sound. Assumes nothing.
 use Prim.{tt}
-use Prim.Native.Nat.{ℕ, suc, _+_, _-_, _≤_}
-use mathlib.Core.Path.{_≡_}
+use Prim.Native.Nat.{ℕ, suc, _+_, _≤_}
+use mathlib.Core.Path.{_≡_, refl}
 use mathlib.Core.Bool.{Bool, true, false, _&&_, not}
 use mathlib.Core.List.{List}
 use native.Mathlib.Omega.{arith}
@@ -13,7 +13,7 @@ use lib.Seq.{drop-cons}
 use Rattle.wire.specs.Choose.{choose}
 use Rattle.wire.specs.Word.{minus}
 use Rattle.wire.proofs.Tests.{and-true, or-true-right}
-use Rattle.wire.proofs.Cases.{by-choice}
+use Rattle.wire.proofs.Cases.{by-choice, no}
 use Rattle.figures.specs.Figure.{decimal, upperHex, noByte, allFigures}
 use Rattle.figures.specs.Decimal.{valueOf}
 use Rattle.figures.specs.Signed.{minusChar, withSign, figuresOf, parsedOf}
@@ -22,7 +22,7 @@ use Rattle.figures.proofs.Characters.{pair-at-most}
 use Rattle.card.specs.Numbers.{frameForm, checkCharacter, rangeUnknown, valueOutside, readOnly}
 use Rattle.card.specs.Fitness.{inSpan, registerMost}
 use Rattle.lecom.specs.Form.{lengthRight, startAt, standardHex, extendedHex, dataLeast, dataMost, closing, lastRegister, firstProbe, lastProbe, activate, store, namedBy}
-use Rattle.lecom.specs.Frame.{isWrite, codeAt, isExtended, hexAt, codeEnd, sizeRight, pairIn, xorFrom, codeNumber, subcodeRight, namedIn, dataOf, dataRead, valueIn, ordered, asked}
+use Rattle.lecom.specs.Frame.{isWrite, codeAt, isExtended, hexAt, codeEnd, sizeRight, endRight, pairIn, xorFrom, codeNumber, subcodeRight, namedIn, dataOf, dataRead, valueIn, ordered, asked}
 use Rattle.lecom.specs.Stages.{Has, Sound, orderHere}
 use Rattle.lecom.specs.declared.frame.Order.{Order}
 use Rattle.lecom.specs.declared.frame.Order.the-variants.{Silent, Refused}
@@ -48,6 +48,24 @@ bounds f =
 pub extended-end : (f : List ℕ) → isExtended f ≡ true → codeEnd f ≡ hexAt f + extendedHex
 unfolding codeEnd choose
 extended-end f h = rw h
+
+-- where the code of a read and of a write begins
+pub read-start : (f : List ℕ) → isWrite f ≡ false → codeAt f ≡ startAt
+unfolding codeAt choose
+read-start f h = rw h
+
+pub write-start : (f : List ℕ) → isWrite f ≡ true → codeAt f ≡ startAt + 1
+unfolding codeAt choose
+write-start f h = rw h
+
+-- where an extended and a standard code end
+pub extended-code : (f : List ℕ) → isExtended f ≡ true → codeEnd f ≡ codeAt f + 1 + extendedHex
+unfolding codeEnd hexAt choose
+extended-code f h = rw h
+
+pub standard-code : (f : List ℕ) → isExtended f ≡ false → codeEnd f ≡ codeAt f + standardHex
+unfolding codeEnd hexAt choose
+standard-code f h = rw h
 
 -- two hex characters are a byte, or the mark for none
 pub pair-most : (f : List ℕ) (at : ℕ) → pairIn f at ≤ noByte
@@ -157,3 +175,13 @@ module _ (f : List ℕ) where
   unfolding asked orderHere
   asked-sound address =
       or-silent (lengthRight (length f)) _ _ (λ _. or-silent _ _ _ (λ _. or-silent _ _ _ (λ _. or-silent _ _ _ (λ _. here-sound))))
+
+-- a frame of another length asks nothing, with no byte sent
+pub other-length : (address : ℕ) (f : List ℕ) → lengthRight (length f) ≡ false → Silent frameForm ≡ asked address f
+unfolding asked
+other-length address f h = no _ _ _ _ h refl
+
+-- a frame of a wrong size or end is refused for its form
+pub wrong-size-or-end : (f : List ℕ) → (sizeRight f && endRight f) ≡ false → Refused frameForm ≡ orderHere f
+unfolding orderHere
+wrong-size-or-end f h = by-choice (λ (o : Order). Refused frameForm ≡ o) (sizeRight f) _ _ (λ s. no _ _ _ _ (rw s at h) refl) (λ _. refl)

@@ -28,7 +28,7 @@ use Rattle.lecom.specs.Form.{shortest, longest, stx, etx, eot, enq, exte
 use Rattle.lecom.specs.Frame.{figuresRight, isWrite, codeAt, isExtended, hexAt, codeEnd, sizeRight, endRight, codeRight, namedIn, dataOf, dataRead, valueRight, dataRight, asked}
 use Rattle.lecom.specs.Receiver.{step, heldBehindStx, heldBehindEot}
 use Rattle.lecom.specs.declared.frame.Order.the-variants.{Silent, Refused}
-use Rattle.lecom.proofs.Frames.{bounds, size-holds, write-holds}
+use Rattle.lecom.proofs.Frames.{bounds, size-holds, write-holds, read-start, write-start}
 use Rattle.lecom.proofs.Receiver.{endsIn, last-cons, held-begun, among-begun, next-begun, held-leads}
 
 -- characters above every control character of the dialect
@@ -170,15 +170,6 @@ module _ (t o s : ℕ) (l : List ℕ) (ht : enq < t) (ho : enq < o) (es : eqb s 
       let p = t ∷ o ∷ s ∷ (l ++ (etx ∷ [])) in
       let m = length-append l (etx ∷ []) in
       whole step (x ∷ p) b (held-leads (x ∷ p) (held-begun x p (record { first = e; fits = omega arith; reads = write-reads }))) (closes-last x p b e write-has (ends-last etx (t ∷ o ∷ s ∷ l)) (omega arith))
-
--- where the code of a read and of a write begins
-read-start : (f : List ℕ) → isWrite f ≡ false → codeAt f ≡ startAt
-unfolding codeAt choose
-read-start f e = rw e
-
-write-start : (f : List ℕ) → isWrite f ≡ true → codeAt f ≡ startAt + 1
-unfolding codeAt choose
-write-start f e = rw e
 
 read-size : (f : List ℕ) → isWrite f ≡ false → sizeRight f ≡ true → length f ≡ codeEnd f + 1
 unfolding sizeRight choose

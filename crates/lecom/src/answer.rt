@@ -24,20 +24,30 @@ ghost use Rattle.card.specs.Layout.{wordCount, memorySize};
 ghost use Rattle.card.specs.Probe.{readingOf};
 ghost use Rattle.card.specs.Reply.{Wrote, GaveWords, roomLeast, Told};
 ghost use Rattle.lecom.specs.Form.{stx, ack};
-ghost use Rattle.lecom.specs.Frame.{collective, codeEnd, codeOf};
+ghost use Rattle.lecom.specs.Frame.{collective, codeAt, codeEnd, codeOf};
 ghost use Rattle.lecom.specs.Stages.{Has, Sound, Outlines};
 ghost use Rattle.lecom.specs.Answer.{valueBytes, unknownBytes, refusalBytes, doneBy, refusedBy, probeAnswer, readAnswer, written, obeyed};
 
-// Writes STX and the code as received.
+// Writes STX and the code, which stands in the frame from at to end.
+fn put_code_at(f: &[u8], at: usize, end: usize, out: &mut [u8]) -> usize
+    requires { ⌜ ((at ≡ codeAt (now f)) × (end ≡ codeEnd (now f))) × ((codeEnd (now f) ≤ length (now f)) × (roomLeast ≤ length (now out))) ⌝ }
+    ensures { λ r. ⌜ Wrote (stx ∷ codeOf (now (f .entry))) (now (out .entry)) r (now (out .exit)) ⌝ }
+{
+    out[0] = Lecom::STX;
+    wire::copy(&f[at..end], out, 1);
+    1 + (end - at)
+}
+
+// Writes STX and the code as received. Each of its two lengths by itself: the compiler then copies without a loop.
 fn put_code(f: &[u8], outline: Outline, out: &mut [u8]) -> usize
     requires { ⌜ ((codeEnd (now f) ≤ length (now f)) × Outlines (now f) outline) × (roomLeast ≤ length (now out)) ⌝ }
     ensures { λ r. ⌜ Wrote (stx ∷ codeOf (now (f .entry))) (now (out .entry)) r (now (out .exit)) ⌝ }
 {
     let at = outline.start;
-    let end = outline.end;
-    out[0] = Lecom::STX;
-    wire::copy(&f[at..end], out, 1);
-    1 + (end - at)
+    if outline.extended {
+        return put_code_at(f, at, at + 1 + Lecom::EXTENDED_HEX, out);
+    }
+    put_code_at(f, at, at + Lecom::STANDARD_HEX, out)
 }
 
 // Writes the answer to a read of an unknown code.

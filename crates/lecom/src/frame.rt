@@ -13,14 +13,17 @@ use figures::DECIMAL;
 use figures::NO_BYTE;
 use figures::Parsed;
 use figures::UPPER_HEX;
+use figures::sheet::Sheet;
+use figures::sheet::figure;
 use wire::BYTE_VALUES;
 ghost use mathlib.Core.Path.{_≡_};
-ghost use mathlib.Core.Bool.{true};
+ghost use mathlib.Core.Bool.{true, _&&_};
 ghost use Prim.Native.Nat.{_+_, _≤_};
-ghost use lib.ListN.{length, getD};
+ghost use lib.ListN.{length};
 ghost use Rattle.wire.specs.Choose.{choose};
+ghost use Rattle.figures.specs.Sheet.{IsSheet};
 ghost use Rattle.card.specs.Numbers.{valueOutside, readOnly};
-ghost use Rattle.lecom.specs.Form.{shortest};
+ghost use Rattle.lecom.specs.Form.{shortest, lengthRight};
 ghost use Rattle.lecom.specs.Frame.{reaches, codeEnd, sizeRight, endRight, bccOf, bccRight, pairIn, namedIn, writeRight, valueRight, valueIn, dataRight, ordered, unless, asked};
 ghost use Rattle.lecom.specs.Stages.{Outlines, Coded, orderHere};
 
@@ -59,16 +62,6 @@ pub fn bcc(s: &[u8]) -> u8
     x
 }
 
-// The byte at a place of the frame, 0 past its end.
-fn byte_at(f: &[u8], at: usize) -> u8
-    ensures { λ r. ⌜ r ≡ getD (now (f .entry)) at 0 ⌝ }
-{
-    if at < f.len() {
-        return f[at];
-    }
-    0
-}
-
 // One of two places, by a test.
 fn pick(test: bool, a: usize, b: usize) -> usize
     ensures { λ r. ⌜ r ≡ choose test a b ⌝ }
@@ -79,20 +72,22 @@ fn pick(test: bool, a: usize, b: usize) -> usize
     b
 }
 
-// The outline of any frame.
-pub fn outline_of(f: &[u8]) -> Outline
+// The outline of a frame that is not too short.
+pub fn outline_of(sheet: &Sheet, f: &[u8]) -> Outline
+    requires { ⌜ IsSheet (now sheet) ⌝ }
+    requires { ⌜ shortest ≤ length (now f) ⌝ }
     ensures { λ r. ⌜ Outlines (now (f .entry)) r ⌝ }
 {
-    let write = byte_at(f, Lecom::START) == Lecom::STX;
+    let write = f[Lecom::START] == Lecom::STX;
     let start = pick(write, Lecom::START + 1, Lecom::START);
-    let extended = byte_at(f, start) == Lecom::EXTENDED;
+    let extended = f[start] == Lecom::EXTENDED;
     let hex = pick(extended, start + 1, start);
     let end = pick(
         extended,
         hex + Lecom::EXTENDED_HEX,
         hex + Lecom::STANDARD_HEX,
     );
-    let collective = figures::figure(byte_at(f, Lecom::ONES)) == 0;
+    let collective = figure(sheet, f[Lecom::ONES]) == 0;
     Outline {
         collective,
         write,
@@ -104,40 +99,32 @@ pub fn outline_of(f: &[u8]) -> Outline
 }
 
 // Whether the address reaches the unit at this one.
-fn is_reached(address: u32, f: &[u8], outline: Outline) -> bool
+fn is_reached(sheet: &Sheet, address: u32, f: &[u8], outline: Outline) -> bool
+    requires { ⌜ IsSheet (now sheet) ⌝ }
     requires { ⌜ (shortest ≤ length (now f)) × Outlines (now f) outline ⌝ }
     ensures { λ r. ⌜ r ≡ reaches address (now (f .entry)) ⌝ }
 {
-    let tens = figures::figure(f[Lecom::TENS]) as u32;
+    let tens = figure(sheet, f[Lecom::TENS]) as u32;
     if outline.collective {
         return (tens == 0) | (tens == address / TEN);
     }
-    let ones = figures::figure(f[Lecom::ONES]) as u32;
+    let ones = figure(sheet, f[Lecom::ONES]) as u32;
     TEN * tens + ones == address
 }
 
-fn size_right(f: &[u8], outline: Outline) -> bool
-    requires { ⌜ Outlines (now f) outline ⌝ }
-    ensures { λ r. ⌜ r ≡ sizeRight (now (f .entry)) ⌝ }
+// Whether a frame has its form's length, and ENQ last or ETX last but one. The two ways test in different orders: else the compiler joins them.
+fn size_and_end_right(f: &[u8], outline: Outline) -> bool
+    requires { ⌜ (shortest ≤ length (now f)) × Outlines (now f) outline ⌝ }
+    ensures { λ r. ⌜ r ≡ (sizeRight (now (f .entry)) && endRight (now (f .entry))) ⌝ }
 {
     let n = f.len();
     let end = outline.end;
     if outline.write {
-        return (end + Lecom::DATA_LEAST + Lecom::CLOSING <= n)
-            & (n <= end + Lecom::DATA_MOST + Lecom::CLOSING);
+        let least = end + Lecom::DATA_LEAST + Lecom::CLOSING;
+        let most = end + Lecom::DATA_MOST + Lecom::CLOSING;
+        return ((least <= n) & (n <= most)) & (f[n - Lecom::CLOSING] == Lecom::ETX);
     }
-    n == end + 1
-}
-
-fn end_right(f: &[u8], outline: Outline) -> bool
-    requires { ⌜ (shortest ≤ length (now f)) × Outlines (now f) outline ⌝ }
-    ensures { λ r. ⌜ r ≡ endRight (now (f .entry)) ⌝ }
-{
-    let n = f.len();
-    if outline.write {
-        return f[n - Lecom::CLOSING] == Lecom::ETX;
-    }
-    f[n - 1] == Lecom::ENQ
+    (f[n - 1] == Lecom::ENQ) & (n == end + 1)
 }
 
 fn bcc_right(f: &[u8], outline: Outline) -> bool
@@ -147,17 +134,18 @@ fn bcc_right(f: &[u8], outline: Outline) -> bool
     if !outline.write {
         return true;
     }
-    let at = outline.start;
     let last = f.len() - 1;
-    bcc(&f[at..last]) == f[last]
+    // A write's code begins behind its STX.
+    bcc(&f[Lecom::START + 1..last]) == f[last]
 }
 
 // The byte that two hex characters are.
-fn pair_in(f: &[u8], at: usize) -> u32
+fn pair_in(sheet: &Sheet, f: &[u8], at: usize) -> u32
+    requires { ⌜ IsSheet (now sheet) ⌝ }
     requires { ⌜ at + 2 ≤ length (now f) ⌝ }
     ensures { λ r. ⌜ r ≡ pairIn (now (f .entry)) at ⌝ }
 {
-    figures::pair_byte(f[at], f[at + 1], UPPER_HEX)
+    figures::pair_byte(sheet, f[at], f[at + 1], UPPER_HEX)
 }
 
 // What a frame's code is: whether its characters are hex, and what it names then.
@@ -167,12 +155,13 @@ struct Code {
 }
 
 // Reads the frame's code, each character once.
-fn code_in(f: &[u8], outline: Outline) -> Code
+fn code_in(sheet: &Sheet, f: &[u8], outline: Outline) -> Code
+    requires { ⌜ IsSheet (now sheet) ⌝ }
     requires { ⌜ (codeEnd (now f) ≤ length (now f)) × Outlines (now f) outline ⌝ }
     ensures { λ r. ⌜ Coded (now (f .entry)) r ⌝ }
 {
     let at = outline.hex;
-    let first = pair_in(f, at);
+    let first = pair_in(sheet, f, at);
     if first == NO_BYTE {
         return Code {
             right: false,
@@ -185,8 +174,8 @@ fn code_in(f: &[u8], outline: Outline) -> Code
             named: form::named_by(first),
         };
     }
-    let second = pair_in(f, at + Lecom::STANDARD);
-    let subcode = pair_in(f, at + Lecom::SUBCODE);
+    let second = pair_in(sheet, f, at + Lecom::STANDARD);
+    let subcode = pair_in(sheet, f, at + Lecom::SUBCODE);
     if (second == NO_BYTE) | (subcode == NO_BYTE) {
         return Code {
             right: false,
@@ -219,7 +208,8 @@ fn write_of(named: Named, parsed: Parsed) -> Order
 }
 
 // Read-only, data and the order itself, for a frame with a known code.
-fn order_in(f: &[u8], outline: Outline, named: Named) -> Order
+fn order_in(sheet: &Sheet, f: &[u8], outline: Outline, named: Named) -> Order
+    requires { ⌜ IsSheet (now sheet) ⌝ }
     requires { ⌜ (sizeRight (now f) ≡ true) × (Outlines (now f) outline × (named ≡ namedIn (now f))) ⌝ }
     ensures { λ r. ⌜ r ≡ unless (writeRight (now (f .entry))) readOnly (unless (dataRight (now (f .entry))) valueOutside (ordered (now (f .entry)))) ⌝ }
 {
@@ -231,21 +221,19 @@ fn order_in(f: &[u8], outline: Outline, named: Named) -> Order
     }
     let from = outline.end;
     let end = f.len() - Lecom::CLOSING;
-    write_of(named, figures::parse(&f[from..end], REGISTER_MOST))
+    write_of(named, figures::parse(sheet, &f[from..end], REGISTER_MOST))
 }
 
 // What a frame that reached the unit asks.
-fn order_here(f: &[u8], outline: Outline) -> Order
+fn order_here(sheet: &Sheet, f: &[u8], outline: Outline) -> Order
+    requires { ⌜ IsSheet (now sheet) ⌝ }
     requires { ⌜ (shortest ≤ length (now f)) × Outlines (now f) outline ⌝ }
     ensures { λ r. ⌜ r ≡ orderHere (now (f .entry)) ⌝ }
 {
-    if !size_right(f, outline) {
+    if !size_and_end_right(f, outline) {
         return Order::Refused(FRAME_FORM);
     }
-    if !end_right(f, outline) {
-        return Order::Refused(FRAME_FORM);
-    }
-    let code = code_in(f, outline);
+    let code = code_in(sheet, f, outline);
     if !code.right {
         return Order::Refused(FRAME_FORM);
     }
@@ -256,25 +244,23 @@ fn order_here(f: &[u8], outline: Outline) -> Order
     if !form::is_known(named) {
         return Order::Refused(RANGE_UNKNOWN);
     }
-    order_in(f, outline, named)
+    order_in(sheet, f, outline, named)
 }
 
-// What the frame f, of this outline, asks of the unit at an address.
-pub fn order_of(address: u32, f: &[u8], outline: Outline) -> Order
-    requires { ⌜ Outlines (now f) outline ⌝ }
+// What the frame f, of a right length and this outline, asks of the unit at an address.
+pub fn order_of(sheet: &Sheet, address: u32, f: &[u8], outline: Outline) -> Order
+    requires { ⌜ IsSheet (now sheet) ⌝ }
+    requires { ⌜ (lengthRight (length (now f)) ≡ true) × Outlines (now f) outline ⌝ }
     ensures { λ r. ⌜ r ≡ asked address (now (f .entry)) ⌝ }
 {
-    if !Lecom::fits(f.len()) {
-        return Order::Silent(FRAME_FORM);
-    }
     if f[0] != Lecom::EOT {
         return Order::Silent(FRAME_FORM);
     }
-    if !figures::all_figures(&f[Lecom::TENS..Lecom::START], DECIMAL) {
+    if !figures::all_figures(sheet, &f[Lecom::TENS..Lecom::START], DECIMAL) {
         return Order::Silent(FRAME_FORM);
     }
-    if !is_reached(address, f, outline) {
+    if !is_reached(sheet, address, f, outline) {
         return Order::Silent(FOREIGN_ADDRESS);
     }
-    order_here(f, outline)
+    order_here(sheet, f, outline)
 }

@@ -1,21 +1,21 @@
 // A line as it comes; its words, numbers and bytes. A word is a run of bytes that are no spaces.
 use crate::LINE_MOST;
 use crate::text::SPACE;
-use figures::DECIMAL;
+use figures::HEX;
+use figures::MINUS;
 use figures::NO_BYTE;
+use figures::NO_VALUE;
+use figures::sheet::Sheet;
 ghost use mathlib.Core.Path.{_≡_};
 ghost use Prim.Native.Nat.{_+_, _*_, _≤_, _<_};
 ghost use lib.ListN.{length};
 ghost use Rattle.wire.specs.Buffer.{same};
 ghost use Rattle.figures.specs.Figure.{noByte};
+ghost use Rattle.figures.specs.Sheet.{IsSheet};
 ghost use Rattle.lines.specs.Lent.{lineMost, Joined};
-
-const MINUS: u8 = b'-';
 
 // "A number is decimal, of one to ten figures". A word that is none has a value above every limit.
 const FIGURES_MOST: usize = 10;
-
-const NO_NUMBER: u64 = u64::MAX;
 
 // A byte is "exactly two hex figures".
 const PAIR: usize = 2;
@@ -96,18 +96,15 @@ pub fn is_word(word: &[u8], name: &[u8]) -> bool
     wire::is_same(word, name)
 }
 
-// The value of a word of decimal figures, or NO_NUMBER.
+// The value of a word of decimal figures, or NO_VALUE.
 fn number_in(word: &[u8]) -> u64 {
     if word.len() == 0 {
-        return NO_NUMBER;
+        return NO_VALUE;
     }
     if FIGURES_MOST < word.len() {
-        return NO_NUMBER;
+        return NO_VALUE;
     }
-    if !figures::all_figures(word, DECIMAL) {
-        return NO_NUMBER;
-    }
-    figures::value(word)
+    figures::value(&figures::sheet::take(), word)
 }
 
 // A number read from a line: whether there is one, its value and where the next word starts.
@@ -158,7 +155,8 @@ pub fn read_signed(s: &[u8], at: usize) -> Number
 }
 
 // The byte that the word at at is, or NO_BYTE.
-fn byte_at(s: &[u8], at: usize) -> u32
+fn byte_at(sheet: &Sheet, s: &[u8], at: usize) -> u32
+    requires { ⌜ IsSheet (now sheet) ⌝ }
     requires { ⌜ at < length (now s) ⌝ }
     ensures { λ r. ⌜ (r ≤ noByte) × ((r < noByte → at + 2 ≤ length (now (s .entry)))) ⌝ }
 {
@@ -171,7 +169,7 @@ fn byte_at(s: &[u8], at: usize) -> u32
             return NO_BYTE;
         }
     }
-    figures::hex_byte(s[at], s[at + 1])
+    figures::pair_byte(sheet, s[at], s[at + 1], HEX)
 }
 
 // Bytes read from a line: how many there are, and where the first word starts that is none.
@@ -185,10 +183,11 @@ pub fn read_bytes(s: &[u8], at: usize, to: &mut [u8]) -> Bytes
     requires { ⌜ (at ≤ length (now s)) × (length (now s) ≤ 2 * length (now to)) ⌝ }
     ensures { λ r. ⌜ (r .count ≤ length (now (to .exit))) × (r .next ≤ length (now (s .entry))) ⌝ }
 {
+    let sheet = figures::sheet::take();
     let mut next = at;
     let mut count = 0;
     while next < s.len() {
-        let b = byte_at(s, next);
+        let b = byte_at(&sheet, s, next);
         if NO_BYTE <= b {
             return Bytes { count, next };
         }

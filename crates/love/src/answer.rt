@@ -8,6 +8,7 @@ use card::layout::LOVE_ADDRESS;
 use card::numbers::ANSWERED;
 use card::probe::Reading;
 use card::probe::read_code;
+use figures::ZERO;
 ghost use mathlib.Core.Path.{_≡_};
 ghost use mathlib.Core.List.{[], _∷_, _++_};
 ghost use Prim.Native.Nat.{_≤_, _<_, _+_};
@@ -37,8 +38,8 @@ const NEGATIVE: u8 = 0x01;
 // How many figures a number has in a reply.
 const FIGURES: usize = 4;
 
-// The data for 00: how many characters stand before its figures; the first without and with a fault; the fourth of a negative
-// number; and any other.
+// The data for 00: how many characters stand before its figures; the first without and with a fault; and the fourth of a negative
+// number. Any other is ZERO.
 const STATUS_SIZE: usize = 4;
 
 const FINE: u8 = b'C';
@@ -46,8 +47,6 @@ const FINE: u8 = b'C';
 const FAULT: u8 = b'D';
 
 const BELOW_ZERO: u8 = b'2';
-
-const ZERO: u8 = b'0';
 
 // Writes what begins every reply: STX, filter and address.
 fn put_unit(out: &mut [u8], address: u32)

@@ -14,12 +14,14 @@ use figures::NO_BYTE;
 use figures::NO_VALUE;
 use figures::UPPER_HEX;
 use figures::all_figures;
+use figures::sheet::Sheet;
 ghost use mathlib.Core.Path.{_≡_};
 ghost use mathlib.Core.Bool.{_||_};
 ghost use Prim.Native.Nat.{_≤_, _<_, _+_};
 ghost use lib.Dec.{eqb};
 ghost use lib.ListN.{length};
 ghost use Rattle.figures.specs.Figure.{upperHex};
+ghost use Rattle.figures.specs.Sheet.{IsSheet};
 ghost use Rattle.figures.specs.Signed.{withSign};
 ghost use Rattle.card.specs.Layout.{loveCount};
 ghost use Rattle.card.specs.Fitness.{loveAddressMost};
@@ -55,11 +57,12 @@ fn is_refusal(order: Order) -> bool
 }
 
 // The byte that two characters are, both of them figures below limit.
-fn byte_at(s: &[u8], i: usize, limit: u8) -> u32
+fn byte_at(sheet: &Sheet, s: &[u8], i: usize, limit: u8) -> u32
+    requires { ⌜ IsSheet (now sheet) ⌝ }
     requires { ⌜ i + 1 < length (now s) ⌝ }
     ensures { λ r. ⌜ r ≡ byteAt limit (now (s .entry)) i ⌝ }
 {
-    figures::pair_byte(s[i], s[i + 1], limit)
+    figures::pair_byte(sheet, s[i], s[i + 1], limit)
 }
 
 // Whether a frame's filter and its address figures, read as unit, are those of the address.
@@ -72,13 +75,14 @@ fn is_for(address: u32, unit: u32, f: &[u8]) -> bool
 }
 
 // Whether a frame's two checksum figures are its checksum.
-fn checksum_right(f: &[u8]) -> bool
+fn checksum_right(sheet: &Sheet, f: &[u8]) -> bool
+    requires { ⌜ IsSheet (now sheet) ⌝ }
     requires { ⌜ shortest ≤ length (now f) ⌝ }
     ensures { λ r. ⌜ r ≡ checksumRight (now (f .entry)) ⌝ }
 {
     let end = f.len() - Love::TAIL;
     let sum = wire::sum(&f[Love::ADDRESS..end]);
-    byte_at(f, end, UPPER_HEX) == sum as u32
+    byte_at(sheet, f, end, UPPER_HEX) == sum as u32
 }
 
 // The parameter that a command names: its place among Love's four, or LOVE_COUNT for none.
@@ -115,15 +119,16 @@ fn number_of(sign: u32, value: u32) -> u32
 }
 
 // A write of parameter k: its figures, its sign, its range.
-fn order_write(k: usize, characters: &[u8]) -> Order
+fn order_write(sheet: &Sheet, k: usize, characters: &[u8]) -> Order
+    requires { ⌜ IsSheet (now sheet) ⌝ }
     requires { ⌜ (k < loveCount) × (length (now characters) ≡ writeLength) ⌝ }
     ensures { λ r. ⌜ r ≡ orderWrite k (now (characters .entry)) ⌝ }
 {
-    let value = figures::value(&characters[Love::VALUE..Love::SIGN]);
+    let value = figures::value(sheet, &characters[Love::VALUE..Love::SIGN]);
     if value == NO_VALUE {
         return Order::Refused(VALUE_OUTSIDE, Love::FIELD_ERROR);
     }
-    let sign = byte_at(characters, Love::SIGN, HEX);
+    let sign = byte_at(sheet, characters, Love::SIGN, HEX);
     if !sign_right(sign) {
         return Order::Refused(VALUE_OUTSIDE, Love::FIELD_ERROR);
     }
@@ -135,7 +140,8 @@ fn order_write(k: usize, characters: &[u8]) -> Order
 }
 
 // The command by its first half, and the parameter that its second half names.
-fn order_by(command: u32, k: usize, characters: &[u8]) -> Order
+fn order_by(sheet: &Sheet, command: u32, k: usize, characters: &[u8]) -> Order
+    requires { ⌜ IsSheet (now sheet) ⌝ }
     ensures { λ r. ⌜ r ≡ orderBy command k (now (characters .entry)) ⌝ }
 {
     if LOVE_COUNT <= k {
@@ -153,11 +159,12 @@ fn order_by(command: u32, k: usize, characters: &[u8]) -> Order
     if characters.len() != Love::WRITE_LENGTH {
         return Order::Refused(FRAME_FORM, Love::FIELD_ERROR);
     }
-    order_write(k, characters)
+    order_write(sheet, k, characters)
 }
 
 // The data: its length, and 00 or another command.
-fn order_in(characters: &[u8]) -> Order
+fn order_in(sheet: &Sheet, characters: &[u8]) -> Order
+    requires { ⌜ IsSheet (now sheet) ⌝ }
     ensures { λ r. ⌜ r ≡ orderIn (now (characters .entry)) ⌝ }
 {
     let d = characters.len();
@@ -167,7 +174,7 @@ fn order_in(characters: &[u8]) -> Order
     if Love::DATA_MOST < d {
         return Order::Refused(FRAME_FORM, Love::FIELD_ERROR);
     }
-    let command = byte_at(characters, Love::COMMAND, HEX);
+    let command = byte_at(sheet, characters, Love::COMMAND, HEX);
     if command == Love::STATUS {
         if d != Love::STATUS_LENGTH {
             return Order::Refused(FRAME_FORM, Love::FIELD_ERROR);
@@ -177,36 +184,38 @@ fn order_in(characters: &[u8]) -> Order
     if d < Love::COMMAND_LENGTH {
         return Order::Refused(FRAME_FORM, Love::FIELD_ERROR);
     }
-    let k = parameter(byte_at(characters, Love::PARAMETER, HEX));
-    order_by(command, k, characters)
+    let k = parameter(byte_at(sheet, characters, Love::PARAMETER, HEX));
+    order_by(sheet, command, k, characters)
 }
 
 // A frame of a right form: whose it is, its checksum, its characters. What is carried out has no characters but figures; so they are looked at
 // only where the data are refused.
-fn order_here(address: u32, unit: u32, f: &[u8]) -> Order
+fn order_here(sheet: &Sheet, address: u32, unit: u32, f: &[u8]) -> Order
+    requires { ⌜ IsSheet (now sheet) ⌝ }
     requires { ⌜ ((address ≤ loveAddressMost) × (shortest ≤ length (now f))) × (unit ≡ byteAt upperHex (now f) addressAt) ⌝ }
     ensures { λ r. ⌜ r ≡ orderHere address (now (f .entry)) ⌝ }
 {
     if !is_for(address, unit, f) {
         return Order::Silent(FOREIGN_ADDRESS);
     }
-    if !checksum_right(f) {
+    if !checksum_right(sheet, f) {
         return Order::Refused(CHECK_CHARACTER, Love::CHECKSUM_ERROR);
     }
     let end = f.len() - Love::TAIL;
     let characters = &f[Love::DATA..end];
-    let order = order_in(characters);
+    let order = order_in(sheet, characters);
     if !is_refusal(order) {
         return order;
     }
-    if !all_figures(characters, HEX) {
+    if !all_figures(sheet, characters, HEX) {
         return Order::Refused(FRAME_FORM, Love::ILLEGAL_CHARACTER);
     }
     order
 }
 
 // What the frame f asks of the unit at an address.
-pub fn order_of(address: u32, f: &[u8]) -> Order
+pub fn order_of(sheet: &Sheet, address: u32, f: &[u8]) -> Order
+    requires { ⌜ IsSheet (now sheet) ⌝ }
     requires { ⌜ address ≤ loveAddressMost ⌝ }
     ensures { λ r. ⌜ r ≡ asked address (now (f .entry)) ⌝ }
 {
@@ -220,9 +229,9 @@ pub fn order_of(address: u32, f: &[u8]) -> Order
     if f[n - 1] != Love::ETX {
         return Order::Silent(FRAME_FORM);
     }
-    let unit = byte_at(f, Love::ADDRESS, UPPER_HEX);
+    let unit = byte_at(sheet, f, Love::ADDRESS, UPPER_HEX);
     if unit == NO_BYTE {
         return Order::Silent(FRAME_FORM);
     }
-    order_here(address, unit, f)
+    order_here(sheet, address, unit, f)
 }

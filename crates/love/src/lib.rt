@@ -20,10 +20,12 @@ pub fn love(words: &mut [u32], memory: &[u8], ports: &[u8], f: &[u8], out: &mut 
         let after = cardOf (now (words .exit)) (now (memory .entry)) (now (ports .entry)) in
         ⌜ Gave (loveReply before (length (now (out .entry))) (now (f .entry))) (now (out .entry)) r after (now (out .exit)) ⌝ }
 {
+    // Taken first: behind the test of the tables its stores take longer.
+    let sheet = figures::sheet::take();
     let number = card::stop_early(words, memory, ports, ROOM_LEAST, out.len());
     if number != ANSWERED {
         return Outcome { number, len: 0 };
     }
-    let order = frame::order_of(words[LOVE_ADDRESS], f);
+    let order = frame::order_of(&sheet, words[LOVE_ADDRESS], f);
     answer::obey(words, memory, order, out)
 }

@@ -19,7 +19,7 @@ use Rattle.card.specs.Probe.{faultCode, readingOf, tenthsOf}
 use Rattle.card.specs.Reply.{WordsReply, onWords, sent, shell, roomLeast, Keeps, leaving}
 use Rattle.card.specs.declared.probe.Reading.the-variants.{Fault}
 use Rattle.card.proofs.Replies.{shell-keeps}
-use Rattle.card.proofs.Sweep.{at}
+use Rattle.wire.proofs.Sweep.{at}
 use Rattle.lucid.specs.Form.{channelsFrom, channelsOf, demand}
 use Rattle.lucid.specs.Frame.{asked}
 use Rattle.lucid.specs.Answer.{Values, Held, Failed, joined, group, hundredthsOf, valueOf, read, faulted, obeyed, lucidReply, named, readsProbe, asksProbe}

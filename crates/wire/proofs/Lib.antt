@@ -5,4 +5,5 @@ pub mod Buffers
 pub mod Moves
 pub mod Same
 pub mod Lengths
+pub mod Sweep
 pub mod Computed

@@ -12,10 +12,10 @@ use Rattle.figures.proofs.all_figures.Statement.{statement}
 use Rattle.figures.proofs.all_figures.Tie as tie
 
 abbrev Inv-loop : tie.InvT-loop
-Inv-loop s limit ok₀ i₀ ok i = (i ≤ length s) × (allFigures limit s ≡ (ok && allFigures limit (drop i s)))
+Inv-loop sheet s limit ok₀ i₀ ok i = (i ≤ length s) × (allFigures limit s ≡ (ok && allFigures limit (drop i s)))
 
 abbrev μ-loop : tie.MeasureT-loop
-μ-loop s limit ok₀ i₀ ok i = length s - i
+μ-loop sheet s limit ok₀ i₀ ok i = length s - i
 
 loop-holds : tie.Need-loop-holds Inv-loop μ-loop
 loop-holds c = (omega arith, refl)

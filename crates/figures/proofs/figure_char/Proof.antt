@@ -1,25 +1,16 @@
--- `figures::figure_char` meets its contract. Assumes nothing.
-use mathlib.Core.Path.{refl}
-use borrow.Author.Tests.{lt-ltb, le-ltb}
-use Rattle.wire.proofs.Cases.{yes, no}
-use Rattle.figures.specs.Figure.{charOf}
+-- `figures::figure_char` meets its contract: the alphabet's entry of a value is its character. Assumes nothing.
 use borrow.Author.Needs.{needs}
 use Rattle.figures.proofs.figure_char.Statement.{statement}
 use Rattle.figures.proofs.figure_char.Tie as tie
 
-add-result : tie.Need-add-result
-add-result c = search needs
+alphabet-requires : tie.Need-alphabet-requires
+alphabet-requires c κs = search needs
+
+array-read-result : tie.Need-array-read-result
+array-read-result c = search needs
 
 returns : tie.Need-returns
-unfolding charOf
-returns c = yes _ _ _ _ (lt-ltb _ _ (c .if1 .taken)) refl
-
-add-result-2 : tie.Need-add-result-2
-add-result-2 c = search needs
-
-returns-2 : tie.Need-returns-2
-unfolding charOf
-returns-2 c = no _ _ _ _ (le-ltb _ _ (c .if1 .left)) refl
+returns c = c .alphabet .ensures .entry _ (search needs)
 
 pub figure-char-spec : {M : Type 1} → statement M
-figure-char-spec = tie.close (tie.spec add-result returns add-result-2 returns-2)
+figure-char-spec = tie.close (tie.spec alphabet-requires array-read-result returns)

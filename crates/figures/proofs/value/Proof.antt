@@ -13,10 +13,10 @@ use Rattle.figures.proofs.value.Statement.{statement}
 use Rattle.figures.proofs.value.Tie as tie
 
 abbrev Inv-loop : tie.InvT-loop
-Inv-loop s v₀ i₀ v i = (i ≤ length s) × (v < 10 ^ i) × (readOf s ≡ readFrom v (drop i s))
+Inv-loop sheet s v₀ i₀ v i = (i ≤ length s) × (v < 10 ^ i) × (readOf s ≡ readFrom v (drop i s))
 
 abbrev μ-loop : tie.MeasureT-loop
-μ-loop s v₀ i₀ v i = length s - i
+μ-loop sheet s v₀ i₀ v i = length s - i
 
 loop-holds : tie.Need-loop-holds Inv-loop μ-loop
 unfolding readOf

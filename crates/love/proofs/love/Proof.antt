@@ -17,8 +17,15 @@ use Rattle.love.proofs.love.Statement.{statement}
 use Rattle.love.proofs.love.Tie as tie
 
 -- past the shell the card is fit and the buffer long enough
-passed : (c : tie.Else1) → (fit (cardOf (c .before .before .before .before .before .before .before .before .args .words .now) (c .before .before .before .before .before .before .before .before .args .memory .now) (c .before .before .before .before .before .before .before .before .args .ports .now)) ≡ true) × (roomLeast ≤ length (c .before .before .before .before .before .before .before .before .args .out .now))
-passed c = early-none _ _ _ (c .before .stop-early .ensures) (c .if1 .left)
+module _ (c : tie.Else1) where
+  abbrev start : tie.Start
+  start = c .before .before .before .before .before .before .before .before .before
+
+  passed : (fit (cardOf (start .args .words .now) (start .args .memory .now) (start .args .ports .now)) ≡ true) × (roomLeast ≤ length (start .args .out .now))
+  passed = early-none _ _ _ (c .before .stop-early .ensures) (c .if1 .left)
+
+take-requires : tie.Need-take-requires
+take-requires c κs = search needs
 
 stop-early-requires : tie.Need-stop-early-requires
 stop-early-requires c κs = search needs
@@ -31,14 +38,14 @@ unfolding loveReply
 returns c = shell-stopped _ _ _ _ (c .before .stop-early .ensures) (c .if1 .taken)
 
 slice-read-order-of : tie.Need-slice-read-order-of
-slice-read-order-of c = omega (arith, fit-facts _ (passed (c .before) .0) .words-length)
+slice-read-order-of c = omega (arith, fit-facts _ (passed (c .before .before) .0) .words-length)
 
 order-of-requires : tie.Need-order-of-requires
-order-of-requires c κs = fit-facts _ (passed (c .before) .0) .love-address
+order-of-requires c κs = (c .before .before .before .before .before .take .ensures, fit-facts _ (passed (c .before .before) .0) .love-address)
 
 obey-requires : tie.Need-obey-requires
 obey-requires c κs =
-    let p = passed (c .before .before .before .before) in
+    let p = passed (c .before .before .before .before .before) in
     let f = fit-facts _ (p .0) in
     ((subst Sound (sym (c .before .before .order-of .ensures)) (asked-sound _ _), (f .words-length, f .love-address)), (f .memory-length, p .1))
 
@@ -51,8 +58,8 @@ same-length-3 c = search needs
 returns-2 : tie.Need-returns-2
 unfolding loveReply
 returns-2 c =
-    let p = passed (c .before .before .before .before .before .before .before .before .before) in
-    let a = c .before .before .before .before .before .before .before .before .before .before .before .before .before .before .before .before .before .args in
+    let p = passed (c .before .before .before .before .before .before .before .before .before .before) in
+    let a = start (c .before .before .before .before .before .before .before .before .before .before) .args in
     rw (← c .before .before .before .before .before .before .before .order-of .ensures)
     (shell-passed _ _ _ _ (p .0) (p .1) (gave-words (cardOf (a .words .now) (a .memory .now) (a .ports .now)) _ _ (c .before .before .before .before .obey .ensures)))
 
@@ -60,6 +67,7 @@ pub love-spec : {M : Type 1} → statement M
 love-spec =
     tie.close
     (tie.spec
+    take-requires
     stop-early-requires
     same-length
     returns

@@ -1,5 +1,6 @@
 //! The sections: each writes scripts about one part of the card, scene by scene.
 
+mod characters;
 mod datalink;
 mod dialect;
 mod exchanges;
@@ -88,7 +89,7 @@ const RECEIVER_ENTRIES: [Entry; 8] = [
 ];
 
 /// All sections, in the order of their turns.
-pub const SECTIONS: [Section; 10] = [
+pub const SECTIONS: [Section; 11] = [
     Section {
         name: "tables",
         share: Share::Part(3),
@@ -157,6 +158,16 @@ pub const SECTIONS: [Section; 10] = [
         is_followed: false,
         is_exchange: false,
         scene: lengths::scene,
+        close: |_| {},
+    },
+    Section {
+        name: "characters",
+        share: Share::Whole(characters::CASES),
+        needs: &["lecom", "love", "datalink", "probe", "poke"],
+        entries: &[],
+        is_followed: false,
+        is_exchange: false,
+        scene: characters::scene,
         close: |_| {},
     },
     Section {

@@ -1,51 +1,54 @@
--- `lecom::answer::put_code` meets its contract, piece by piece. Assumes nothing.
-use lib.ListN.{length-set, length-take, length-drop}
+-- `lecom::answer::put_code` meets its contract: the code ends where its length says. Assumes nothing.
 use native.Mathlib.Omega.{arith}
-use Rattle.lecom.proofs.Frames.{bounds}
-use Rattle.lecom.proofs.Writes.{wrote-code}
+use Rattle.wire.proofs.Cases.{told-true, told-false}
+use Rattle.lecom.proofs.Frames.{bounds, extended-code, standard-code}
 use borrow.Author.Needs.{needs}
 use Rattle.lecom.proofs.answer.put_code.Statement.{statement}
 use Rattle.lecom.proofs.answer.put_code.Tie as tie
 
-slice-write-out : tie.Need-slice-write-out
-slice-write-out c = search needs
+add-put-code-at : tie.Need-add-put-code-at
+add-put-code-at c = omega (arith, bounds (c .before .before .before .args .f .now))
 
-sub-copy : tie.Need-sub-copy
-sub-copy c = omega (arith, bounds (c .before .before .args .f .now))
+add-put-code-at-2 : tie.Need-add-put-code-at-2
+add-put-code-at-2 c = omega (arith, bounds (c .before .before .before .args .f .now))
 
-part-copy-start : tie.Need-part-copy-start
-part-copy-start c = omega (arith, bounds (c .before .before .args .f .now))
-
-part-copy-end : tie.Need-part-copy-end
-part-copy-end c = search needs
-
-copy-requires : tie.Need-copy-requires
-copy-requires c κs = simp (length-set, length-take, length-drop) (omega (arith, bounds (c .before .before .before .before .args .f .now)))
-
-sub-result : tie.Need-sub-result
-sub-result c = omega (arith, bounds (c .before .before .before .before .before .before .before .args .f .now))
-
-add-result : tie.Need-add-result
-add-result c = search needs
+put-code-at-requires : tie.Need-put-code-at-requires
+put-code-at-requires c κs =
+    let start = c .before .before .before .before in
+    let o = start .pre .0 .1 in
+    ((o .starts, omega (arith, o .starts, extended-code (start .args .f .now) (told-true (o .extends) (c .before .if1 .taken)))), (start .pre .0 .0, start .pre .1))
 
 same-length : tie.Need-same-length
-same-length c = rw (c .before .before .copy .kept .1 .0) (simp length-set)
+same-length c = search needs
 
 returns : tie.Need-returns
-returns c =
-    let start = c .before .before .before .before .before .before .before in
-    wrote-code _ _ _ _ _ (start .pre .0 .1 .starts) (start .pre .0 .1 .ends) (start .pre .0 .0) (search needs) (c .before .before .copy .ensures)
+returns c = search needs
+
+add-put-code-at-3 : tie.Need-add-put-code-at-3
+add-put-code-at-3 c = omega (arith, bounds (c .before .before .before .args .f .now))
+
+put-code-at-requires-2 : tie.Need-put-code-at-requires-2
+put-code-at-requires-2 c κs =
+    let start = c .before .before .before .before in
+    let o = start .pre .0 .1 in
+    ((o .starts, omega (arith, o .starts, standard-code (start .args .f .now) (told-false (o .extends) (c .before .if1 .left)))), (start .pre .0 .0, start .pre .1))
+
+same-length-2 : tie.Need-same-length-2
+same-length-2 c = search needs
+
+returns-2 : tie.Need-returns-2
+returns-2 c = search needs
 
 pub put-code-spec : {M : Type 1} → statement M
 put-code-spec =
     tie.close
     (tie.spec
-    slice-write-out
-    sub-copy
-    part-copy-start
-    part-copy-end
-    copy-requires
-    sub-result
-    add-result
+    add-put-code-at
+    add-put-code-at-2
+    put-code-at-requires
     same-length
-    returns)
+    returns
+    add-put-code-at-3
+    put-code-at-requires-2
+    same-length-2
+    returns-2)

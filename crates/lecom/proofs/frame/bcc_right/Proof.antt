@@ -1,7 +1,6 @@
 -- `lecom::frame::bcc_right` meets its contract, test by test. Assumes nothing.
 use Rattle.wire.proofs.Cases.{cases, yes, told-yes}
-use native.Mathlib.Omega.{arith}
-use Rattle.lecom.proofs.Frames.{bounds}
+use Rattle.lecom.proofs.Frames.{write-start}
 use Rattle.lecom.specs.Frame.{bccRight}
 use borrow.Author.Needs.{needs}
 use Rattle.lecom.proofs.frame.bcc_right.Statement.{statement}
@@ -14,11 +13,14 @@ returns c = search cases
 sub-last : tie.Need-sub-last
 sub-last c = search needs
 
+add-bcc : tie.Need-add-bcc
+add-bcc c = search needs
+
 sub-bcc : tie.Need-sub-bcc
-sub-bcc c = omega (arith, bounds (c .before .before .before .args .f .now))
+sub-bcc c = search needs
 
 part-bcc-start : tie.Need-part-bcc-start
-part-bcc-start c = omega (arith, bounds (c .before .before .before .args .f .now))
+part-bcc-start c = search needs
 
 part-bcc-end : tie.Need-part-bcc-end
 part-bcc-end c = search needs
@@ -33,7 +35,8 @@ returns-2 : tie.Need-returns-2
 unfolding bccRight
 returns-2 c =
     let start = c .before .before .before .before .before .before in
-    yes _ _ _ _ (told-yes (start .pre .1 .writes) (c .before .before .before .if1 .left)) (rw (c .before .bcc .ensures, start .pre .1 .starts))
+    let write = told-yes (start .pre .1 .writes) (c .before .before .before .if1 .left) in
+    yes _ _ _ _ write (rw (c .before .bcc .ensures, write-start (start .args .f .now) write))
 
 pub bcc-right-spec : {M : Type 1} → statement M
 bcc-right-spec =
@@ -41,6 +44,7 @@ bcc-right-spec =
     (tie.spec
     returns
     sub-last
+    add-bcc
     sub-bcc
     part-bcc-start
     part-bcc-end

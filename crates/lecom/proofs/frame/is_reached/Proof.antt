@@ -16,7 +16,7 @@ cast-tens c = search needs
 
 returns : tie.Need-returns
 unfolding reaches tensIn
-returns c = yes _ _ _ _ (told-true (c .before .before .before .before .pre .1 .quiet) (c .if1 .taken)) (rw (c .before .figure .ensures))
+returns c = yes _ _ _ _ (told-true (c .before .before .before .before .pre .1 .1 .quiet) (c .if1 .taken)) (rw (c .before .figure .ensures))
 
 shared-slice-read-figure-2 : tie.Need-shared-slice-read-figure-2
 shared-slice-read-figure-2 c = search needs
@@ -36,7 +36,7 @@ add-result c = search needs
 returns-2 : tie.Need-returns-2
 unfolding reaches tensIn onesIn
 returns-2 c =
-    no _ _ _ _ (told-false (c .before .before .before .before .before .before .pre .1 .quiet) (c .before .before .if1 .left))
+    no _ _ _ _ (told-false (c .before .before .before .before .before .before .pre .1 .1 .quiet) (c .before .before .if1 .left))
     (rw (c .before .before .before .figure .ensures, c .figure2 .ensures))
 
 pub is-reached-spec : {M : Type 1} → statement M

@@ -1,5 +1,5 @@
 -- `lecom::frame::outline_of` meets its contract, place by place. Assumes nothing.
-use mathlib.Core.Path.{_≡_, _∙_}
+use mathlib.Core.Path.{_≡_, refl, _∙_}
 use native.Mathlib.Omega.{arith}
 use Rattle.lecom.specs.Frame.{collective, onesIn, isWrite, codeAt, isExtended, hexAt, codeEnd}
 use Rattle.lecom.proofs.Frames.{bounds}
@@ -7,8 +7,8 @@ use borrow.Author.Needs.{needs}
 use Rattle.lecom.proofs.frame.outline_of.Statement.{statement}
 use Rattle.lecom.proofs.frame.outline_of.Tie as tie
 
-byte-at-requires : tie.Need-byte-at-requires
-byte-at-requires c κs = search needs
+shared-slice-read-write : tie.Need-shared-slice-read-write
+shared-slice-read-write c = search needs
 
 add-pick : tie.Need-add-pick
 add-pick c = search needs
@@ -18,10 +18,10 @@ pick-requires c κs = search needs
 
 starts : (c : tie.After-pick) → c .pick .result ≡ codeAt (c .before .before .before .args .f .now)
 unfolding codeAt isWrite
-starts c = c .pick .ensures ∙ rw (c .before .byte-at .ensures)
+starts c = c .pick .ensures
 
-byte-at-requires-2 : tie.Need-byte-at-requires-2
-byte-at-requires-2 c κs = search needs
+shared-slice-read-extended : tie.Need-shared-slice-read-extended
+shared-slice-read-extended c = omega (arith, starts (c .before), bounds (c .before .before .before .before .args .f .now))
 
 add-pick-2 : tie.Need-add-pick-2
 add-pick-2 c = omega (arith, starts (c .before), bounds (c .before .before .before .before .args .f .now))
@@ -31,7 +31,7 @@ pick-requires-2 c κs = search needs
 
 hexed : (c : tie.After-pick2) → c .pick2 .result ≡ hexAt (c .before .before .before .before .before .args .f .now)
 unfolding hexAt isExtended
-hexed c = c .pick2 .ensures ∙ rw (c .before .byte-at2 .ensures, starts (c .before .before))
+hexed c = c .pick2 .ensures ∙ rw (starts (c .before .before))
 
 add-pick-3 : tie.Need-add-pick-3
 add-pick-3 c = omega (arith, hexed c, bounds (c .before .before .before .before .before .args .f .now))
@@ -42,8 +42,8 @@ add-pick-4 c = omega (arith, hexed c, bounds (c .before .before .before .before 
 pick-requires-3 : tie.Need-pick-requires-3
 pick-requires-3 c κs = search needs
 
-byte-at-requires-3 : tie.Need-byte-at-requires-3
-byte-at-requires-3 c κs = search needs
+shared-slice-read-figure : tie.Need-shared-slice-read-figure
+shared-slice-read-figure c = search needs
 
 figure-requires : tie.Need-figure-requires
 figure-requires c κs = search needs
@@ -53,30 +53,29 @@ unfolding collective onesIn isWrite isExtended codeEnd
 returns c =
     let ended = c .before .before in
     let at-hex = ended .before in
-    let second = at-hex .before in
-    let at-start = second .before in
+    let at-start = at-hex .before .before in
     record {
-      quiet = rw (c .figure .ensures, c .before .byte-at3 .ensures);
-      writes = rw (at-start .before .byte-at .ensures);
-      extends = rw (second .byte-at2 .ensures, starts at-start);
+      quiet = rw (c .figure .ensures);
+      writes = refl;
+      extends = rw (starts at-start);
       starts = starts at-start;
       hexed = hexed at-hex;
-      ends = ended .pick3 .ensures ∙ rw (second .byte-at2 .ensures, starts at-start, hexed at-hex);
+      ends = ended .pick3 .ensures ∙ rw (starts at-start, hexed at-hex);
     }
 
 pub outline-of-spec : {M : Type 1} → statement M
 outline-of-spec =
     tie.close
     (tie.spec
-    byte-at-requires
+    shared-slice-read-write
     add-pick
     pick-requires
-    byte-at-requires-2
+    shared-slice-read-extended
     add-pick-2
     pick-requires-2
     add-pick-3
     add-pick-4
     pick-requires-3
-    byte-at-requires-3
+    shared-slice-read-figure
     figure-requires
     returns)

@@ -19,20 +19,20 @@ shared-slice-read-if3 c = search needs
 returns-2 : tie.Need-returns-2
 returns-2 c = search needs
 
-shared-slice-read-hex-byte : tie.Need-shared-slice-read-hex-byte
-shared-slice-read-hex-byte c = search needs
+shared-slice-read-pair-byte : tie.Need-shared-slice-read-pair-byte
+shared-slice-read-pair-byte c = search needs
 
-add-hex-byte : tie.Need-add-hex-byte
-add-hex-byte c = search needs
+add-pair-byte : tie.Need-add-pair-byte
+add-pair-byte c = search needs
 
-shared-slice-read-hex-byte-2 : tie.Need-shared-slice-read-hex-byte-2
-shared-slice-read-hex-byte-2 c = search needs
+shared-slice-read-pair-byte-2 : tie.Need-shared-slice-read-pair-byte-2
+shared-slice-read-pair-byte-2 c = search needs
 
-hex-byte-requires : tie.Need-hex-byte-requires
-hex-byte-requires c κs = search needs
+pair-byte-requires : tie.Need-pair-byte-requires
+pair-byte-requires c κs = search needs
 
 returns-3 : tie.Need-returns-3
-returns-3 c = (rw (c .hex-byte .ensures) (pair-at-most _ _ _), λ _. search needs)
+returns-3 c = (rw (c .pair-byte .ensures) (pair-at-most _ _ _), λ _. search needs)
 
 pub byte-at-spec : {M : Type 1} → statement M
 byte-at-spec =
@@ -43,8 +43,8 @@ byte-at-spec =
     add-if3
     shared-slice-read-if3
     returns-2
-    shared-slice-read-hex-byte
-    add-hex-byte
-    shared-slice-read-hex-byte-2
-    hex-byte-requires
+    shared-slice-read-pair-byte
+    add-pair-byte
+    shared-slice-read-pair-byte-2
+    pair-byte-requires
     returns-3)

@@ -8,10 +8,13 @@ use Rattle.lines.proofs.line.read_bytes.Statement.{statement}
 use Rattle.lines.proofs.line.read_bytes.Tie as tie
 
 abbrev Inv-loop : tie.InvT-loop
-Inv-loop s at to₀ next₀ count₀ to next count = ((at ≤ next) × (next ≤ length s)) × ((2 * count ≤ next - at) × (length to ≡ length to₀))
+Inv-loop s at to₀ sheet next₀ count₀ to next count = ((at ≤ next) × (next ≤ length s)) × ((2 * count ≤ next - at) × (length to ≡ length to₀))
 
 abbrev μ-loop : tie.MeasureT-loop
-μ-loop s at to₀ next₀ count₀ to next count = length s - next
+μ-loop s at to₀ sheet next₀ count₀ to next count = length s - next
+
+take-requires : tie.Need-take-requires Inv-loop μ-loop
+take-requires c κs = search needs
 
 loop-holds : tie.Need-loop-holds Inv-loop μ-loop
 loop-holds c = search needs
@@ -58,6 +61,7 @@ read-bytes-spec =
     (tie.spec
     Inv-loop
     μ-loop
+    take-requires
     loop-holds
     byte-at-requires
     same-length

@@ -1,7 +1,8 @@
 -- `love::frame::order_of` meets its contract, test by test. Assumes nothing.
-use mathlib.Core.Path.{_≡_, ap, _∙_}
+use mathlib.Core.Path.{_≡_, sym, ap, _∙_}
 use mathlib.Core.Bool.{true, false, not}
-use Prim.Native.Nat.{_≤_}
+use mathlib.Core.List.{List}
+use Prim.Native.Nat.{ℕ, _≤_}
 use native.Mathlib.Omega.{arith}
 use lib.Dec.{eqb}
 use lib.ListN.{length}
@@ -47,25 +48,32 @@ unfolding asked
 returns-3 c = search cases
 
 byte-at-requires : tie.Need-byte-at-requires
-byte-at-requires c κs = omega (arith, long (c .before .before .before .before))
+byte-at-requires c κs = (search needs, omega (arith, long (c .before .before .before .before)))
 
 -- the address figures are right exactly if they were read as a byte
-figures : (c : tie.After-byte-at) → allFigures upperHex (part (c .before .before .before .before .before .before .before .before .args .f .now) addressAt dataAt) ≡ not (eqb (c .byte-at .result) noByte)
-figures c = rw (c .byte-at .ensures) (address-figures (c .before .before .before .before .before .before .before .before .args .f .now) (long (c .before .before .before .before .before)))
+module _ (c : tie.After-byte-at) where
+  abbrev frame : List ℕ
+  frame = c .before .before .before .before .before .before .before .before .args .f .now
+
+  figures : allFigures upperHex (part frame addressAt dataAt) ≡ not (eqb (c .byte-at .result) noByte)
+  figures = address-figures frame (long (c .before .before .before .before .before)) ∙ ap (λ (unit : ℕ). not (eqb unit noByte)) (sym (c .byte-at .ensures))
 
 returns-4 : tie.Need-returns-4
 unfolding asked
 returns-4 c =
-    let wrong : allFigures upperHex (part (c .before .before .before .before .before .before .before .before .before .args .f .now) addressAt dataAt) ≡ false = figures (c .before) ∙ ap not (eq-eqb _ _ (c .if4 .taken)) in
+    let wrong : allFigures upperHex (part (frame (c .before)) addressAt dataAt) ≡ false = figures (c .before) ∙ ap not (eq-eqb _ _ (c .if4 .taken)) in
     search (cases, wrong)
 
 order-here-requires : tie.Need-order-here-requires
-order-here-requires c κs = ((c .before .before .before .before .before .before .before .before .before .pre, long (c .before .before .before .before .before .before)), c .before .byte-at .ensures)
+order-here-requires c κs =
+    let start = c .before .before .before .before .before .before .before .before .before in
+    (start .pre .0, ((start .pre .1, long (c .before .before .before .before .before .before)), c .before .byte-at .ensures))
 
 returns-5 : tie.Need-returns-5
 unfolding asked orderHere orderIn orderBy orderWrite
 returns-5 c =
-    let right : allFigures upperHex (part (c .before .before .before .before .before .before .before .before .before .before .args .f .now) addressAt dataAt) ≡ true = figures (c .before .before) ∙ ap not (ne-eqb _ _ (c .before .if4 .left)) in
+    let read = c .before .before in
+    let right : allFigures upperHex (part (frame read) addressAt dataAt) ≡ true = figures read ∙ ap not (ne-eqb _ _ (c .before .if4 .left)) in
     search (cases, right)
 
 pub order-of-spec : {M : Type 1} → statement M

@@ -56,13 +56,13 @@ returns-2 : tie.Need-returns-2
 unfolding orderWrite signRight
 returns-2 c =
     let v = c .before .before .before in
-    let r = read (v .before .before .before .before .args .characters .now) (v .before .value .result) (v .before .before .before .before .pre .1) (v .before .value .ensures) (v .if1 .left) in
+    let r = read (v .before .before .before .before .args .characters .now) (v .before .value .result) (v .before .before .before .before .pre .1 .1) (v .before .value .ensures) (v .if1 .left) in
     yes _ _ _ _ (r .0) (rw (← c .before .before .byte-at .ensures) (search cases))
 
 cast-number-of : tie.Need-cast-number-of
 cast-number-of c =
     let v = c .before .before .before in
-    omega (arith, read (v .before .before .before .before .args .characters .now) (v .before .value .result) (v .before .before .before .before .pre .1) (v .before .value .ensures) (v .if1 .left))
+    omega (arith, read (v .before .before .before .before .args .characters .now) (v .before .value .result) (v .before .before .before .before .pre .1 .1) (v .before .value .ensures) (v .if1 .left))
 
 number-of-requires : tie.Need-number-of-requires
 number-of-requires c κs = search needs
@@ -77,14 +77,14 @@ returns-3 : tie.Need-returns-3
 unfolding orderWrite signRight numberIn
 returns-3 c =
     let v = c .before .before .before .before .before .before in
-    let r = read (v .before .before .before .before .args .characters .now) (v .before .value .result) (v .before .before .before .before .pre .1) (v .before .value .ensures) (v .if1 .left) in
+    let r = read (v .before .before .before .before .args .characters .now) (v .before .value .result) (v .before .before .before .before .pre .1 .1) (v .before .value .ensures) (v .if1 .left) in
     yes _ _ _ _ (r .0) (rw (← r .1 .0, ← c .before .before .before .before .before .byte-at .ensures, ← c .before .before .number-of .ensures) (search (yes, no, told-yes, told-no)))
 
 returns-4 : tie.Need-returns-4
 unfolding orderWrite signRight numberIn
 returns-4 c =
     let v = c .before .before .before .before .before .before in
-    let r = read (v .before .before .before .before .args .characters .now) (v .before .value .result) (v .before .before .before .before .pre .1) (v .before .value .ensures) (v .if1 .left) in
+    let r = read (v .before .before .before .before .args .characters .now) (v .before .value .result) (v .before .before .before .before .pre .1 .1) (v .before .value .ensures) (v .if1 .left) in
     yes _ _ _ _ (r .0) (rw (← r .1 .0, ← c .before .before .before .before .before .byte-at .ensures, ← c .before .before .number-of .ensures) (search (yes, no, told-yes, told-no)))
 
 pub order-write-spec : {M : Type 1} → statement M
