@@ -117,7 +117,7 @@ uint8_t nk_governor(const uint32_t *words, size_t words_count, const uint8_t *me
  * and its length to *len, which is 0 where nothing is to be sent. A frame above the dialect's longest is NK_FRAME_FORM with
  * nothing to be sent.
  *
- * Worst cases: Datalink 772 instructions and 120 bytes of stack, LECOM 840 and 376, Love 709 and 400, LucidControl 606 and
+ * Worst cases: Datalink 772 instructions and 120 bytes of stack, LECOM 889 and 448, Love 720 and 384, LucidControl 606 and
  * 88. */
 uint8_t nk_datalink(const uint32_t *words, size_t words_count, uint8_t *memory, size_t memory_count, uint8_t *ports,
                     size_t ports_count, const uint8_t *frame, size_t frame_count, uint8_t *answer, size_t answer_count,
@@ -215,6 +215,65 @@ enum {
 uint8_t nk_step(uint8_t *phase, uint8_t kind, uint32_t ia, uint32_t address, const uint8_t *sent, size_t sent_count,
                 const uint8_t *states, size_t states_count, const uint8_t *answer, size_t answer_count, uint8_t *frame,
                 size_t frame_count, size_t *len);
+
+/* The masters of LECOM, Love and LucidControl: the host's side of one request and its reply. They keep no state: ask makes the
+ * request's frame, and hear, with the same request, says what a reply to it means.
+ *
+ * ask: NK_VALUE_OUTSIDE exactly if the request lies outside document 01 or writes a probe; then NK_BUFFER_SHORT exactly if the
+ *   frame is longer than `frame`; else NK_ANSWERED with the frame at the front of `frame`, *len bytes of it. Of all frames for a
+ *   request it is the shortest, and of these the lowest byte by byte.
+ * hear: `reply` is the whole reply as received (none: count 0). See nk_heard. */
+enum { NK_READ = 0, NK_WRITE = 1, NK_STATUS = 2 };
+
+/* What was heard. `number` is NK_DONE and `said` tells what the reply says; or `said` is NK_HEARD_NOTHING and `number` tells why:
+ * NK_VALUE_OUTSIDE (a request that ask refuses so), NK_CHECK_CHARACTER (an answer to this request but for its check characters),
+ * NK_FRAME_FORM (no answer to this request, and no refusal from this address).
+ * NK_HEARD_VALUE: `count` values, of a group one for each channel, lowest first. A temperature is in tenths of a degree, in
+ * LucidControl's type 41h in hundredths. NK_HEARD_FAULT: the probe has failed; there is no value. NK_HEARD_REFUSED:
+ * the unit refuses; of Love and LucidControl `count` is 1 and values[0] the error code or status, of LECOM `count` is 0 (its NAK
+ * does not tell a failed probe from any other refusal). Values behind `count` have no meaning. */
+enum { NK_HEARD_NOTHING = 0, NK_HEARD_VALUE = 1, NK_HEARD_DONE = 2, NK_HEARD_FAULT = 3, NK_HEARD_REFUSED = 4 };
+typedef struct {
+    uint8_t number;
+    uint8_t said;
+    size_t count;
+    int32_t values[4];
+} nk_heard;
+
+/* LECOM: `task` NK_READ or NK_WRITE, any other is outside. `address` is a unit's, or collective: 0, 10, 20 .. 90; to a collective
+ * address no unit replies. `code` is the code's number: register 5 is 5, probe 0 is 0x60 (read alone), ACTIVATE 0x67, STORE 0x68.
+ * `value` is looked at for a write alone. Worst cases: ask 298 instructions and 144 bytes of stack, hear 532 and 496. */
+uint8_t nk_ask_lecom(uint32_t address, uint8_t task, uint32_t code, int32_t value, uint8_t *frame, size_t frame_count,
+                     size_t *len);
+nk_heard nk_hear_lecom(uint32_t address, uint8_t task, uint32_t code, int32_t value, const uint8_t *reply,
+                       size_t reply_count);
+
+/* Love: `task` NK_READ or NK_WRITE of the parameter at `place` (0 to 3: SP1, SP2, ALLO, ALHI), or NK_STATUS, the temperature of
+ * probe 0; any other is outside. `value` in tenths, for a write alone. Worst cases: ask 219 instructions and 88 bytes of stack,
+ * hear 265 and 176. */
+uint8_t nk_ask_love(uint32_t address, uint8_t task, uint32_t place, int32_t value, uint8_t *frame, size_t frame_count,
+                    size_t *len);
+nk_heard nk_hear_love(uint32_t address, uint8_t task, uint32_t place, int32_t value, const uint8_t *reply,
+                      size_t reply_count);
+
+/* LucidControl: any other command is outside. `p1` is a channel, of a group a mask; `p2` a type (0x10, 0x40, 0x41), of the
+ * commands on parameters the option byte as sent (NK_SET_PARAM without bit 0x01, NK_RESET with it); `address` is looked at for
+ * NK_GET_PARAM and NK_SET_PARAM alone. `values` are what is sent: one demand for NK_SET_IO, one for each channel of the mask,
+ * lowest first, for NK_SET_IO_GROUP, the parameter's value for NK_SET_PARAM, else none; another count is outside.
+ * Worst cases: ask 187 instructions and 120 bytes of stack, hear 253 and 152. */
+enum {
+    NK_GET_IO = 0,
+    NK_GET_IO_GROUP = 1,
+    NK_SET_IO = 2,
+    NK_SET_IO_GROUP = 3,
+    NK_GET_PARAM = 4,
+    NK_SET_PARAM = 5,
+    NK_RESET = 6
+};
+uint8_t nk_ask_lucid(uint8_t command, uint32_t p1, uint32_t p2, uint32_t address, const uint32_t *values, size_t values_count,
+                     uint8_t *frame, size_t frame_count, size_t *len);
+nk_heard nk_hear_lucid(uint8_t command, uint32_t p1, uint32_t p2, uint32_t address, const uint32_t *values,
+                       size_t values_count, const uint8_t *reply, size_t reply_count);
 
 #ifdef __cplusplus
 }

@@ -1,5 +1,5 @@
 /* The checks of the small card in main.c: scripts of requests with the answers that the papers give them, as whole frames and as
- * bytes come; the line master against the card; and every entry on unfit tables and short buffers.
+ * bytes come; the line master and the other masters against the card; and every entry on unfit tables and short buffers.
  *
  * After every call the number, the length, the answer, the rest of the buffer and all three tables are compared. No expected
  * byte was taken from the library. It prints a line for each group and how many checks passed; at the first that fails it says
@@ -465,6 +465,129 @@ static void check_master(void)
     end();
 }
 
+/* ---- The masters of LECOM, Love and LucidControl: 02, M-102, with 01, P6 to P12. Each made frame goes to the card, and the card's
+ * answer to hear. ---- */
+
+/* What is asked: of LECOM and Love address, task, code or place, and value; of LucidControl the command and what it takes. */
+struct wish {
+    const char *source;
+    enum dialect dialect;
+    uint32_t address;
+    uint8_t task;
+    uint32_t code;
+    int32_t value;
+    uint8_t command;
+    uint32_t p1, p2;
+    uint32_t values[2];
+    size_t values_count;
+};
+
+/* The frame that the papers have for it, and what is then heard of the card. */
+struct told {
+    const uint8_t *frame;
+    size_t frame_count;
+    uint8_t said;
+    size_t count;
+    int32_t values[2];
+};
+
+static uint8_t ask(const struct wish *w, uint8_t *frame, size_t room, size_t *len)
+{
+    if (w->dialect == LECOM)
+        return nk_ask_lecom(w->address, w->task, w->code, w->value, frame, room, len);
+    if (w->dialect == LOVE)
+        return nk_ask_love(w->address, w->task, w->code, w->value, frame, room, len);
+    return nk_ask_lucid(w->command, w->p1, w->p2, w->address, w->values, w->values_count, frame, room, len);
+}
+
+static nk_heard hear(const struct wish *w, const uint8_t *reply, size_t count)
+{
+    if (w->dialect == LECOM)
+        return nk_hear_lecom(w->address, w->task, w->code, w->value, reply, count);
+    if (w->dialect == LOVE)
+        return nk_hear_love(w->address, w->task, w->code, w->value, reply, count);
+    return nk_hear_lucid(w->command, w->p1, w->p2, w->address, w->values, w->values_count, reply, count);
+}
+
+/* A request, from its frame to what is heard; with a room one short it is refused. */
+static void inquire(struct card *card, const struct wish *w, const struct told *told)
+{
+    struct answer frame = painted(), answer = painted(), none = painted();
+    check_number(ask(w, frame.bytes, ROOM, &frame.len), NK_ANSWERED, w->source);
+    check_answer(&frame, told->frame, told->frame_count, w->source);
+    check_number(ask(w, none.bytes, told->frame_count - 1, &none.len), NK_BUFFER_SHORT, w->source);
+    check_answer(&none, NULL, 0, w->source);
+    serve(card, w->dialect, frame.bytes, frame.len, answer.bytes, ROOM, &answer.len);
+    const nk_heard heard = hear(w, answer.bytes, answer.len);
+    check_number(heard.number, NK_DONE, w->source);
+    check(heard.said == told->said && heard.count == told->count, w->source, "what is said");
+    check(memcmp(heard.values, told->values, told->count * sizeof *told->values) == 0, w->source, "values");
+}
+
+/* A reply that is none, and a request that is outside. */
+static void check_unheard(const struct wish *w, const uint8_t *reply, size_t count, uint8_t number, const char *source)
+{
+    const nk_heard heard = hear(w, reply, count);
+    check_number(heard.number, number, source);
+    check(heard.said == NK_HEARD_NOTHING && heard.count == 0, source, "nothing is said");
+}
+
+static void check_outside(const struct wish *w, const char *source)
+{
+    struct answer frame = painted();
+    check_number(ask(w, frame.bytes, ROOM, &frame.len), NK_VALUE_OUTSIDE, source);
+    check_answer(&frame, NULL, 0, source);
+    check_unheard(w, (const uint8_t *)"\x06", 1, NK_VALUE_OUTSIDE, source);
+}
+
+static void check_masters(void)
+{
+    const struct wish write = {.source = "01 P6", .dialect = LECOM, .address = 11, .task = NK_WRITE, .value = 9873};
+    const struct wish activate = {.source = "01 P7", .dialect = LECOM, .address = 11, .task = NK_WRITE, .code = 0x67, .value = 1};
+    const struct wish read = {.source = "01 P7: it reads 9873", .dialect = LECOM, .address = 11, .task = NK_READ};
+    const struct wish probe = {.source = "LECOM, probe 0", .dialect = LECOM, .address = 11, .task = NK_READ, .code = 0x60};
+    const struct wish point = {.source = "01 P8", .dialect = LOVE, .address = 0x32, .task = NK_WRITE, .value = -15};
+    const struct wish status = {.source = "01 P9, P10", .dialect = LOVE, .address = 0x32, .task = NK_STATUS};
+    const struct wish channel = {.source = "01 P11, P12", .dialect = LUCID, .command = NK_GET_IO, .p2 = 0x40};
+    const struct wish demands = {.source = "SetIoGroup", .dialect = LUCID, .command = NK_SET_IO_GROUP, .p1 = 5, .p2 = 0x10,
+                                 .values = {1, 65535}, .values_count = 2};
+    const struct wish group = {.source = "GetIoGroup", .dialect = LUCID, .command = NK_GET_IO_GROUP, .p1 = 5, .p2 = 0x10};
+    const struct wish task_3 = {.source = "task 3", .dialect = LOVE, .address = 0x32, .task = 3};
+    const struct wish command_7 = {.source = "command 7", .dialect = LUCID, .command = 7, .p2 = 0x10};
+    const struct wish written = {.source = "a probe", .dialect = LECOM, .address = 11, .task = NK_WRITE, .code = 0x60};
+    struct card card;
+
+    begin("masters of LECOM, Love, LucidControl and card (02)");
+    card_default(&card);
+    inquire(&card, &write,
+            &(struct told){BYTES(0x04, 0x31, 0x31, 0x02, 0x30, 0x30, 0x39, 0x38, 0x37, 0x33, 0x03, 0x06),
+                                 NK_HEARD_DONE, 0, {0}});
+    inquire(&card, &activate,
+            &(struct told){BYTES(0x04, 0x31, 0x31, 0x02, 0x36, 0x37, 0x31, 0x03, 0x33), NK_HEARD_DONE, 0, {0}});
+    inquire(&card, &read, &(struct told){BYTES(0x04, 0x31, 0x31, 0x30, 0x30, 0x05), NK_HEARD_VALUE, 1, {9873}});
+    inquire(&card, &point,
+            &(struct told){BYTES(0x02, 0x4C, 0x33, 0x32, 0x30, 0x32, 0x30, 0x30, 0x30, 0x30, 0x31, 0x35, 0x46, 0x46,
+                                 0x37, 0x39, 0x03), NK_HEARD_DONE, 0, {0}});
+    card.memory[NK_CODES] = 255;
+    inquire(&card, &probe, &(struct told){BYTES(0x04, 0x31, 0x31, 0x36, 0x30, 0x05), NK_HEARD_REFUSED, 0, {0}});
+    inquire(&card, &status,
+            &(struct told){BYTES(0x02, 0x4C, 0x33, 0x32, 0x30, 0x30, 0x43, 0x35, 0x03), NK_HEARD_FAULT, 0, {0}});
+    inquire(&card, &channel, &(struct told){BYTES(0x46, 0x00, 0x40, 0x00), NK_HEARD_FAULT, 0, {0}});
+    card.memory[NK_CODES] = 90;
+    inquire(&card, &status,
+            &(struct told){BYTES(0x02, 0x4C, 0x33, 0x32, 0x30, 0x30, 0x43, 0x35, 0x03), NK_HEARD_VALUE, 1, {50}});
+    card.memory[NK_CODES] = 78;
+    inquire(&card, &channel, &(struct told){BYTES(0x46, 0x00, 0x40, 0x00), NK_HEARD_VALUE, 1, {-10}});
+    inquire(&card, &demands, &(struct told){BYTES(0x42, 0x05, 0x10, 0x04, 0x01, 0x00, 0xFF, 0xFF), NK_HEARD_DONE, 0, {0}});
+    inquire(&card, &group, &(struct told){BYTES(0x48, 0x05, 0x10, 0x00), NK_HEARD_VALUE, 2, {1, 65535}});
+    check_unheard(&read, NULL, 0, NK_FRAME_FORM, "no reply");
+    check_unheard(&read, BYTES(0x02, 0x30, 0x30, 0x39, 0x03, 0x00), NK_CHECK_CHARACTER, "another BCC");
+    check_outside(&task_3, "task 3");
+    check_outside(&command_7, "command 7");
+    check_outside(&written, "a probe written");
+    end();
+}
+
 /* ---- Every entry of the card: unfit tables and short buffers ---- */
 
 /* Calls that a fit card with a pending change carries out; all but two of them would change a table. */
@@ -820,6 +943,7 @@ int main(void)
     check_longest();
     check_together();
     check_master();
+    check_masters();
     check_carried_out();
     check_lengths();
     check_unfit_entries();

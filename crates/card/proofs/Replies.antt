@@ -6,7 +6,8 @@ use Prim.Native.Nat.{ℕ, _+_, _≤_, _<_}
 use native.Mathlib.Omega.{arith}
 use borrow.Author.Tests.{le-leb, leb-true}
 use lib.Dec.{leb}
-use lib.ListN.{length, set, length-append}
+use lib.ListN.{length, take, drop, set, length-append}
+use lib.Seq.{take-at}
 use Rattle.wire.specs.Choose.{choose}
 use Rattle.wire.specs.Buffer.{put, overlay}
 use Rattle.wire.proofs.Cases.{yes, no, by-choice}
@@ -135,6 +136,15 @@ module _ (bytes out : List ℕ) {len : ℕ} {out′ : List ℕ} (w : Wrote bytes
         measured = simp length-append (omega (arith, w .measured));
         written = rw (w .written, w .measured) (overlay-put bytes d out);
       }
+
+  -- it stands at the buffer's front
+  pub wrote-front : take len out′ ≡ bytes
+  unfolding overlay
+  wrote-front = ap (take len) (w .written) ∙ take-at bytes (drop (length bytes) out) len (omega (arith, w .measured))
+
+  pub wrote-within : len ≤ length out′
+  unfolding overlay
+  wrote-within = omega (arith, w .measured, ap length (w .written) ∙ length-append bytes (drop (length bytes) out))
 
 -- the first byte
 pub wrote-one : (x : ℕ) (out : List ℕ) → 0 < length out → Wrote (x ∷ []) out 1 (set out 0 x)

@@ -5,9 +5,9 @@ ghost use Rattle.card.specs.Probe.{readingOf};
 
 pub const FAULT_CODE: u8 = 255;
 
-const TENTHS_PER_CODE: u32 = 5;
+pub const TENTHS_PER_CODE: u32 = 5;
 
-const TENTHS_BELOW: u32 = 400;
+pub const TENTHS_BELOW: u32 = 400;
 
 // Tenths of a degree, in two's complement. Only a probe reading makes one.
 pub struct Tenths(u32);

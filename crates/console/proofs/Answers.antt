@@ -11,7 +11,7 @@ use Rattle.wire.specs.Buffer.{overlay}
 use Rattle.wire.proofs.Cases.{by-choice}
 use Rattle.card.specs.Layout.{Card}
 use Rattle.card.specs.declared.Outcome.{Outcome}
-use Rattle.card.specs.Reply.{Reply, Gave}
+use Rattle.card.specs.Reply.{Reply, Answer, Gave, Told}
 use Rattle.master.specs.declared.Phase.{Phase}
 use Rattle.master.specs.Step.{Move, Stepped}
 use Rattle.card.specs.declared.governor.Governor.the-variants.{Degrees}
@@ -28,6 +28,11 @@ answer-fits g = rw (g .measured, g .written, length-append) (omega arith)
 pub frame-fits : {m : Move Phase} {frame frame′ : List ℕ} {number len : ℕ} {phase : Phase} → Stepped m frame number len phase frame′ → len ≤ length frame′
 unfolding overlay
 frame-fits g = rw (g .measured, g .written, length-append) (omega arith)
+
+-- and a frame that a master made
+pub made-fits : {a : Answer} {out out′ : List ℕ} {number len : ℕ} → Told a out number len out′ → len ≤ length out′
+unfolding overlay
+made-fits t = rw (t .wrote .measured, t .wrote .written, length-append) (omega arith)
 
 pub ruleset answers = (answer-fits, frame-fits, needs)
 

@@ -4,8 +4,8 @@ use receive::Dialect;
 use tables::dialect;
 
 // The lines of the calls, as `help` writes them. A line that cannot be read is answered with those of its first word.
-pub const CALLS: [u8; 317] =
-    *b"probe CHANNEL CODE; restart; governor CHANNEL; datalink ROOM BYTES; lecom ROOM BYTES; love ROOM BYTES; lucid ROOM BYTES; receive DIALECT ROOM BYTES; quiet DIALECT; save ROOM; load BYTES; request change IA ADDRESS BYTES; request bits IA ADDRESS MASKS / STATES; step ROOM BYTES; poke TABLE PLACE VALUE; peek TABLE; help";
+pub const CALLS: [u8; 849] =
+    *b"probe CHANNEL CODE; restart; governor CHANNEL; datalink ROOM BYTES; lecom ROOM BYTES; love ROOM BYTES; lucid ROOM BYTES; receive DIALECT ROOM BYTES; quiet DIALECT; save ROOM; load BYTES; request change IA ADDRESS BYTES; request bits IA ADDRESS MASKS / STATES; step ROOM BYTES; ask lecom ROOM ADDRESS read CODE; ask lecom ROOM ADDRESS write CODE VALUE; ask love ROOM ADDRESS status; ask love ROOM ADDRESS read PLACE; ask love ROOM ADDRESS write PLACE VALUE; ask lucid ROOM getio CHANNEL TYPE; ask lucid ROOM getiogroup MASK TYPE; ask lucid ROOM setio CHANNEL TYPE VALUE; ask lucid ROOM setiogroup MASK TYPE VALUES; ask lucid ROOM getparam CHANNEL OPTION ADDRESS; ask lucid ROOM setparam CHANNEL OPTION ADDRESS VALUE; ask lucid ROOM reset CHANNEL OPTION; reply lecom BYTES; reply love BYTES; reply lucid BYTES; poke TABLE PLACE VALUE; peek TABLE; help";
 
 // A call of an entry of the card: card_calls.rt.
 pub enum CardCall {
@@ -33,6 +33,12 @@ pub enum ExchangeCall {
     Step,
 }
 
+// A call of the masters of LECOM, Love and LucidControl: master_calls.rt.
+pub enum MasterCall {
+    Ask,
+    Reply,
+}
+
 // A call on the tables: table_calls.rt.
 pub enum TableCall {
     Poke,
@@ -48,6 +54,7 @@ pub enum Call {
     Receiver(ReceiverCall),
     Image(ImageCall),
     Exchange(ExchangeCall),
+    Master(MasterCall),
     Tables(TableCall),
     Help,
 }
@@ -66,6 +73,17 @@ fn table_call(name: &[u8]) -> Call {
     Call::Unknown
 }
 
+// The calls of the other masters.
+fn master_call(name: &[u8]) -> Call {
+    if line::is_word(name, b"ask") {
+        return Call::Master(MasterCall::Ask);
+    }
+    if line::is_word(name, b"reply") {
+        return Call::Master(MasterCall::Reply);
+    }
+    table_call(name)
+}
+
 // The calls of the line master.
 fn exchange_call(name: &[u8]) -> Call {
     if line::is_word(name, b"request") {
@@ -74,7 +92,7 @@ fn exchange_call(name: &[u8]) -> Call {
     if line::is_word(name, b"step") {
         return Call::Exchange(ExchangeCall::Step);
     }
-    table_call(name)
+    master_call(name)
 }
 
 // The calls of the image's entries.

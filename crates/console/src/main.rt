@@ -1,10 +1,14 @@
 // The console: reads calls from standard input, a line each, and writes an answer line for each. docs/CONSOLE.md.
 mod arguments;
+mod ask_lecom;
+mod ask_love;
+mod ask_lucid;
 mod call;
 mod card_calls;
 mod exchange;
 mod image_calls;
 mod input;
+mod master_calls;
 mod output;
 mod question;
 mod receiver_calls;
@@ -22,7 +26,6 @@ use lines::BYTES_MOST;
 use lines::LINE_MOST;
 use output::HELD_MOST;
 use reply::Going;
-use reply::State;
 ghost use Prim.Native.Nat.{_<_};
 
 // How many turns are left after one: none where the console has ended.
@@ -64,12 +67,7 @@ fn main() {
     let mut held = [0u8; HELD_MOST];
     start::start_words(&mut words);
     start::start_memory(&mut memory);
-    let mut state = State {
-        going: Going::On,
-        held: 0,
-        input: input::none(),
-        exchange: exchange::none(),
-    };
+    let mut state = reply::start();
     let mut turns = u64::MAX;
     while turns > 0 {
         state = reply::go_on(

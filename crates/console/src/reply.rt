@@ -3,12 +3,13 @@ use crate::call::CALLS;
 use crate::call::Call;
 use crate::card_calls;
 use crate::exchange;
-use crate::exchange::Answer;
 use crate::exchange::Exchange;
 use crate::image_calls;
 use crate::input;
 use crate::input::Input;
 use crate::input::READ_MOST;
+use crate::master_calls;
+use crate::master_calls::Asked;
 use crate::output;
 use crate::output::HELD_MOST;
 use crate::question;
@@ -40,12 +41,34 @@ pub enum Going {
     NotWritten,
 }
 
-// Where the console stands: whether it goes on, how many bytes of answers are held, what is read, and the line master's exchange.
+// Where the console stands: whether it goes on, how many bytes of answers are held, what is read, the line master's exchange, and the
+// requests last asked of the other masters.
 pub struct State {
     pub going: Going,
     pub held: usize,
     pub input: Input,
     pub exchange: Exchange,
+    pub asked: Asked,
+}
+
+// What a call leaves: the length of its answer line, and the masters.
+struct Left {
+    len: usize,
+    exchange: Exchange,
+    asked: Asked,
+}
+
+// Where the console starts.
+pub fn start() -> State
+    ensures { λ r. ⌜ Standing (r .input .at) (r .input .end) (r .held) × Held (r .exchange .sent) (r .exchange .states) ⌝ }
+{
+    State {
+        going: Going::On,
+        held: 0,
+        input: input::none(),
+        exchange: exchange::none(),
+        asked: master_calls::none(),
+    }
 }
 
 // help
@@ -59,7 +82,7 @@ fn help(s: &[u8], out: &mut [u8; ANSWER_MOST]) -> usize
     text::put_words(out, calls, &CALLS)
 }
 
-// A call that leaves the line master as it is; UNREAD for what is no call.
+// A call that leaves the masters as they are; UNREAD for what is no call.
 fn run_here(
     call: Call,
     words: &mut [u32; WORDS],
@@ -92,19 +115,39 @@ fn run(
     sent: &mut [u8; BYTES_MOST],
     states: &mut [u8; BYTES_MOST],
     e: Exchange,
+    asked: Asked,
     s: &[u8],
     f: &mut [u8; BYTES_MOST],
     g: &mut [u8; BYTES_MOST],
     out: &mut [u8; ANSWER_MOST],
-) -> Answer
+) -> Left
     requires { ⌜ (length (now s) ≤ lineMost) × Held (e .sent) (e .states) ⌝ }
     ensures { λ r. ⌜ Answered (r .len) (r .exchange .sent) (r .exchange .states) ⌝ }
 {
-    if let Call::Exchange(asked) = call {
-        return exchange::run(asked, e, s, sent, states, f, g, out);
+    if let Call::Exchange(named) = call {
+        let did = exchange::run(named, e, s, sent, states, f, g, out);
+        let exchange = did.exchange;
+        return Left {
+            len: did.len,
+            exchange,
+            asked,
+        };
+    }
+    if let Call::Master(named) = call {
+        let did = master_calls::run(named, asked, s, f, g, out);
+        let kept = did.asked;
+        return Left {
+            len: did.len,
+            exchange: e,
+            asked: kept,
+        };
     }
     let len = run_here(call, words, memory, ports, s, f, g, out);
-    Answer { len, exchange: e }
+    Left {
+        len,
+        exchange: e,
+        asked,
+    }
 }
 
 // The line of what is wrong with a line that could not be read. Its name stands from one place of the line to another.
@@ -190,6 +233,7 @@ pub fn go_on(
     ensures { λ r. ⌜ Standing (r .input .at) (r .input .end) (r .held) × Held (r .exchange .sent) (r .exchange .states) ⌝ }
 {
     let e = state.exchange;
+    let before = state.asked;
     let taken = state.input;
     let input = input::next(buffer, text, taken);
     let line: &[u8] = text;
@@ -205,6 +249,7 @@ pub fn go_on(
         sent,
         states,
         e,
+        before,
         &line[next..end],
         f,
         g,
@@ -213,10 +258,12 @@ pub fn go_on(
     let n = tell(question, line, did.len, out, held, state.held);
     let kept = output::settle(held, n, input.at < input.end);
     let exchange = did.exchange;
+    let asked = did.asked;
     State {
         going: goes_on(input.over, input.failed, kept.written),
         held: kept.held,
         input,
         exchange,
+        asked,
     }
 }

@@ -24,7 +24,8 @@ use Rattle.master.specs.Step.{Move, sends, ends, refuses, move, stepOf}
 use Rattle.master.specs.declared.Phase.{Phase}
 use Rattle.master.specs.declared.Phase.the-variants.{New, Changing, Acknowledging, Reading, EndedDone, EndedUnknown}
 use Rattle.master.specs.declared.Verdict.the-variants.{Done, Unknown}
-use Rattle.master.proofs.Frames.{same-self, asked-all, all-asked, shown-response}
+use Rattle.wire.proofs.Same.{same-refl}
+use Rattle.master.proofs.Frames.{asked-all, all-asked, shown-response}
 use Rattle.master.proofs.Forced.{asked-again}
 use Rattle.wire.specs.Buffer.{same}
 use Rattle.exchange.specs.Calls.{Choice}
@@ -100,7 +101,7 @@ module _ (q : Request) (start card : Card) where
   read-good got s f =
       let n = namedBy (q .ask) in
       let form : got ≡ response (q .ia) (body n (q .address) (shownIn q got)) = s .form ∙ ap (λ (x : List ℕ). response (q .ia) (body n (q .address) x)) (sym (shown-read got s)) in
-      let one : same got (response (q .ia) (body n (q .address) (shownIn q got))) ≡ true = ap (same got) (sym form) ∙ same-self got in
+      let one : same got (response (q .ia) (body n (q .address) (shownIn q got))) ≡ true = ap (same got) (sym form) ∙ same-refl got in
       let all : allAsked (q .ask) (shownIn q got) n ≡ true =
       ap (λ (x : List ℕ). allAsked (q .ask) x n) (shown-read got s)
       ∙ all-asked (q .ask) (s .read) n
@@ -152,7 +153,7 @@ module _ (q : Request) (start card : Card) where
           rounds = λ g. unheard line got [] (changeFrame q) (v .frame) (change-awaits q a) n (ap allLossless (sym (closing-at line got changeRound [] (v .frames) (v .closed) refl)) ∙ g);
           early = λ _. v .old;
         }
-    by-echo false e (inr h) v = never (sym e ∙ ap (λ (x : List ℕ). same x (echo q)) (h .exact) ∙ same-self (echo q))
+    by-echo false e (inr h) v = never (sym e ∙ ap (λ (x : List ℕ). same x (echo q)) (h .exact) ∙ same-refl (echo q))
 
     by-read-back : (t : Bool) → confirms q got ≡ t → Got (Shows q card) got → AtReading q start card line → Moved (choose t (ends EndedDone) (ends EndedUnknown))
     unfolding afterStep choose

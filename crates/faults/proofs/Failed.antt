@@ -1,4 +1,4 @@
--- The theorem of specs/NoTemperature.antt: the governor, the dialects, and the entries that are never asked for a probe. Assumes nothing.
+-- The theorem of specs/NoTemperature.antt: the governor, the dialects, the entries that are never asked for a probe, and the masters. Assumes nothing.
 use Prim.Native.Nat.{ℕ, _<_}
 use mathlib.Core.Path.{_≡_, refl, sym, ap, _∙_, subst}
 use mathlib.Core.Bool.{Bool, true, false}
@@ -32,6 +32,7 @@ use Rattle.faults.proofs.LecomFaults.{lecom-owes}
 use Rattle.faults.proofs.LoveFaults.{love-owes}
 use Rattle.faults.proofs.LucidFaults.{lucid-owes}
 use Rattle.faults.proofs.DatalinkFaults.{datalink-owes}
+use Rattle.faults.proofs.MasterFaults.{masters-owe}
 
 -- what the governor is told of a channel, by its reading
 told-as : (card : Card) (channel : ℕ) (reading : Reading) → fit card ≡ true → channel < channels → readingOf (getD (card .memory) channel 0) ≡ reading
@@ -129,4 +130,5 @@ no-temperature =
       quiet = quiet-same;
       writeImage = write-same;
       readImage = read-same;
+      masters = masters-owe;
     }

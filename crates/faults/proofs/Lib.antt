@@ -3,6 +3,7 @@ pub mod LecomFaults
 pub mod LoveFaults
 pub mod LucidFaults
 pub mod DatalinkFaults
+pub mod MasterFaults
 pub mod Failed
 pub mod Wrong
 pub mod Refuted

@@ -1,13 +1,15 @@
--- The claim says something: for each of its fields, and each part of a field, a wrong card that breaks it. Assumes nothing.
+-- The claim says something: for each of its fields, and each part of a field, a wrong card or master that breaks it. Assumes nothing.
 use Prim.{tt}
 use Prim.Native.Nat.{ℕ}
 use mathlib.Core.Path.{_≡_, refl, sym, ap, _∙_}
+use mathlib.Core.Bool.{true, false}
 use mathlib.Core.List.{List, [], _∷_}
 use native.Mathlib.Omega.{arith}
 use lib.Dec.{eqb, lit≤, lit<}
 use lib.Ieee.{Float}
 use lib.ListN.{length, getD}
 use Rattle.wire.specs.Choose.{choose}
+use Rattle.wire.specs.Buffer.{same}
 use Rattle.figures.specs.Figure.{pairOf}
 use Rattle.card.specs.Layout.{Card}
 use Rattle.card.specs.Fitness.{fit}
@@ -25,8 +27,24 @@ use Rattle.datalink.specs.Frame.{addressIn}
 use Rattle.datalink.specs.Answer.{datalinkReply}
 use Rattle.receive.specs.declared.Dialect.{Dialect}
 use Rattle.receive.specs.declared.Dialect.the-variants.{Datalink}
-use Rattle.faults.specs.Dialects.{LecomFault, LecomApart, LoveFault, LucidFault, LucidApart, DatalinkFault, OtherBytes}
-use Rattle.faults.specs.NoTemperature.{Failed, GovernorOwes, Owes, Unasked, LecomOwes, LoveOwes, LucidOwes, DatalinkOwes}
+use Rattle.asking.specs.Hearing.Hearing.{Gives, Fault as HeardFault, Refused as HeardRefused}
+use Rattle.asking.proofs.Cards.{start-real}
+use Rattle.lecom_master.specs.Request.{made as lecomMade}
+use Rattle.lecom_master.specs.Heard.{heard as lecomHeard}
+use Rattle.lecom_master.specs.declared.request.Task.the-variants.{Read as LecomRead}
+use Rattle.lecom_master.specs.declared.request.Request.{Request as LecomRequest}
+use Rattle.love_master.specs.Request.{made as loveMade}
+use Rattle.love_master.specs.Heard.{heard as loveHeard}
+use Rattle.love_master.specs.declared.request.Task.{Task as LoveTask}
+use Rattle.love_master.specs.declared.request.Task.the-variants.{Status, Read as LoveRead}
+use Rattle.love_master.specs.declared.request.Request.{Request as LoveRequest}
+use Rattle.lucid_master.specs.Request.{Asking, askingOf, made as lucidMade}
+use Rattle.lucid_master.specs.Heard.{heard as lucidHeard}
+use Rattle.lucid_master.specs.declared.request.Command.the-variants.{GetIo}
+use Rattle.masters.specs.Speaking.{Master}
+use Rattle.masters.proofs.Computed.{lecom-computed, love-computed, lucid-computed, askable-by}
+use Rattle.faults.specs.Dialects.{LecomFault, LecomApart, LoveFault, LucidFault, LucidApart, DatalinkFault, OtherBytes, LoveRequests, asksChannel, LucidRequests}
+use Rattle.faults.specs.NoTemperature.{Failed, GovernorOwes, Owes, Unasked, LecomOwes, LoveOwes, LucidOwes, DatalinkOwes, LecomMasterOwes, LoveMasterOwes, LucidMasterOwes}
 use Rattle.faults.proofs.Failed.{no-temperature}
 use Rattle.faults.proofs.Wrong.{computed, Refuted, refuted, Entry, firstCode, unfitAs, shortAs, instead, atFault, warm, always, noTables, start-failed, lecomProbe, lecomProbeOfAll, lecomRegister, lecom-asks, lecom-asks-all, lecom-single, lecom-of-all, lecom-other, loveProbe, loveSetPoint, love-asks, love-other, lucidProbe, lucidDemand, lucidGroup, lucid-asks, lucid-asks-second, lucid-alone, lucid-other, datalinkProbe, datalinkByte, datalink-asks, datalink-other}
 
@@ -394,3 +412,121 @@ refute-read-image-number = refuted (λ b. b .readImage) (λ e. (img : List ℕ) 
 
 refute-read-image-bytes : Refuted (λ b. b .readImage) (λ card img. sent 0 (firstCode card ∷ []) card)
 refute-read-image-bytes = refuted (λ b. b .readImage) (λ e. (img : List ℕ) → Unasked (λ card. e card img)) (λ b n. n .readImage) (λ h. unasked-bytes (h []))
+
+-- wrong masters, with the right card
+
+-- requests for probe 0, and for register 00, SP1 and the demand of channel 0
+abbrev lecomReads : ℕ → LecomRequest
+lecomReads code = record { address = 11; task = LecomRead code }
+
+abbrev loveAsks : LoveTask → LoveRequest
+loveAsks task = record { address = 0x32; task = task }
+
+abbrev lucidGets : ℕ → Asking
+lucidGets valueType = askingOf (record { command = GetIo; p1 = 0; p2 = valueType; address = 0 }) []
+
+-- LECOM's entry as written and this master, whatever the other entries are, break the claim
+abbrev LecomMasterRefuted : Master LecomRequest → Type 0
+LecomMasterRefuted master = Refuted {E = Entry × Master LecomRequest} (λ b. (b .lecom, b .lecomMaster)) (lecomReply, master)
+
+lecom-master-refuted : {master : Master LecomRequest} → (LecomMasterOwes lecomReply master → ⊥) → LecomMasterRefuted master
+lecom-master-refuted = refuted (λ b. (b .lecom, b .lecomMaster)) (λ e. LecomMasterOwes (e .0) (e .1)) (λ b n. n .masters .lecom)
+
+-- Love's entry as written and this master, whatever the other entries are, break the claim
+abbrev LoveMasterRefuted : Master LoveRequest → Type 0
+LoveMasterRefuted master = Refuted {E = Entry × Master LoveRequest} (λ b. (b .love, b .loveMaster)) (loveReply, master)
+
+love-master-refuted : {master : Master LoveRequest} → (LoveMasterOwes loveReply master → ⊥) → LoveMasterRefuted master
+love-master-refuted = refuted (λ b. (b .love, b .loveMaster)) (λ e. LoveMasterOwes (e .0) (e .1)) (λ b n. n .masters .love)
+
+-- LucidControl's entry as written and this master, whatever the other entries are, break the claim
+abbrev LucidMasterRefuted : Master Asking → Type 0
+LucidMasterRefuted master = Refuted {E = Entry × Master Asking} (λ b. (b .lucid, b .lucidMaster)) (lucidReply, master)
+
+lucid-master-refuted : {master : Master Asking} → (LucidMasterOwes lucidReply master → ⊥) → LucidMasterRefuted master
+lucid-master-refuted = refuted (λ b. (b .lucid, b .lucidMaster)) (λ e. LucidMasterOwes (e .0) (e .1)) (λ b n. n .masters .lucid)
+
+-- NAK read as a value of 0
+abbrev nakAsValue : Master LecomRequest
+nakAsValue = record { made = lecomMade; heard = λ q r. choose (same r (0x15 ∷ [])) (Gives (0 ∷ [])) (lecomHeard q r) }
+
+refute-lecom-nak-as-value : LecomMasterRefuted nakAsValue
+unfolding lecom-computed
+refute-lecom-nak-as-value =
+    lecom-master-refuted (λ (h : LecomMasterOwes lecomReply nakAsValue).
+    let q = lecomReads 0x60 in
+    let z : Gives (0 ∷ []) ≡ HeardRefused [] = h .fault q (askable-by _ q refl refl) startCard (record { real = start-real; there = refl }) 0 38 (lit≤ tt) start-failed refl in
+    let y : _≡_ {A = ℕ} 0 1 = cc in
+    omega (arith, y))
+
+-- every request made and heard as one for probe 0
+abbrev lecomProbeAlone : Master LecomRequest
+lecomProbeAlone =
+    record {
+      made = λ q. lecomMade (record { address = q .address; task = LecomRead 0x60 });
+      heard = λ q r. lecomHeard (record { address = q .address; task = LecomRead 0x60 }) r;
+    }
+
+refute-lecom-probe-alone : LecomMasterRefuted lecomProbeAlone
+unfolding lecom-computed
+refute-lecom-probe-alone =
+    lecom-master-refuted (λ (h : LecomMasterOwes lecomReply lecomProbeAlone).
+    let q = lecomReads 0 in
+    let other : LecomRead 0 ≡ LecomRead 0x60 → ⊥ = λ e. let y : _≡_ {A = ℕ} 0 0x60 = cc in omega (arith, y) in
+    let z : HeardRefused [] ≡ Gives (50 ∷ []) = h .same q (askable-by _ q refl refl) startCard 0 90 38 (lit< tt) other in
+    let y : _≡_ {A = ℕ} 0 1 = cc in
+    omega (arith, y))
+
+-- D read as a temperature of 0
+abbrev dAsZero : Master LoveRequest
+dAsZero = record { made = loveMade; heard = λ q r. choose (eqb (getD r 4 0) 0x44) (Gives (0 ∷ [])) (loveHeard q r) }
+
+refute-love-d-as-zero : LoveMasterRefuted dAsZero
+unfolding love-computed
+refute-love-d-as-zero =
+    love-master-refuted (λ (h : LoveMasterOwes loveReply dAsZero).
+    let q = loveAsks Status in
+    let z : Gives (0 ∷ []) ≡ HeardFault = h .fault q (askable-by _ q refl refl) startCard (record { real = start-real; there = refl }) 0 38 (lit≤ tt) start-failed (record { task = refl; first = refl }) in
+    let y : _≡_ {A = ℕ} 0 1 = cc in
+    omega (arith, y))
+
+-- every request made and heard as 00
+abbrev loveProbeAlone : Master LoveRequest
+loveProbeAlone = record { made = λ q. loveMade (record { address = q .address; task = Status }); heard = λ q r. loveHeard (record { address = q .address; task = Status }) r }
+
+refute-love-probe-alone : LoveMasterRefuted loveProbeAlone
+unfolding love-computed
+refute-love-probe-alone =
+    love-master-refuted (λ (h : LoveMasterOwes loveReply loveProbeAlone).
+    let q = loveAsks (LoveRead 0) in
+    let other : LoveRequests q 0 → ⊥ = λ e. let x = e .task in let y : _≡_ {A = ℕ} 0 1 = cc in omega (arith, y) in
+    let z : HeardFault ≡ Gives (50 ∷ []) = h .same q (askable-by _ q refl refl) startCard 0 90 38 (lit< tt) other in
+    let y : _≡_ {A = ℕ} 0 1 = cc in
+    omega (arith, y))
+
+-- D0h read as a temperature of −0.1 °C
+abbrev d0AsMinusOne : Master Asking
+d0AsMinusOne = record { made = lucidMade; heard = λ q r. choose (eqb (getD r 0 0) 0xD0) (Gives (0xFFFFFFFF ∷ [])) (lucidHeard q r) }
+
+refute-lucid-d0-as-minus-one : LucidMasterRefuted d0AsMinusOne
+unfolding lucid-computed asksChannel
+refute-lucid-d0-as-minus-one =
+    lucid-master-refuted (λ (h : LucidMasterOwes lucidReply d0AsMinusOne).
+    let q = lucidGets 0x40 in
+    let z : Gives (0xFFFFFFFF ∷ []) ≡ HeardFault = h .fault q (askable-by _ q refl refl) startCard (record { real = start-real; there = refl }) 0 38 (lit≤ tt) start-failed refl in
+    let y : _≡_ {A = ℕ} 0 1 = cc in
+    omega (arith, y))
+
+-- every request made and heard as GetIo of probe 0
+abbrev lucidProbeAlone : Master Asking
+lucidProbeAlone = record { made = λ q. lucidMade (lucidGets 0x40); heard = λ q r. lucidHeard (lucidGets 0x40) r }
+
+refute-lucid-probe-alone : LucidMasterRefuted lucidProbeAlone
+unfolding lucid-computed asksChannel
+refute-lucid-probe-alone =
+    lucid-master-refuted (λ (h : LucidMasterOwes lucidReply lucidProbeAlone).
+    let q = lucidGets 0x10 in
+    let other : LucidRequests q 0 → ⊥ = λ e. let x : false ≡ true = e in let y : _≡_ {A = ℕ} 0 1 = cc in omega (arith, y) in
+    let z : HeardFault ≡ Gives (50 ∷ []) = h .same q (askable-by _ q refl refl) startCard 0 90 38 (lit< tt) other in
+    let y : _≡_ {A = ℕ} 0 1 = cc in
+    omega (arith, y))

@@ -1,9 +1,11 @@
 -- For each dialect: when a frame asks for the probe of a channel, its fault reply as document 01 has it, byte by byte, and what sets that
--- reply apart from a temperature's. What a frame asks is by the dialect's order; nothing here rests on what the dialect makes of a reading.
+-- reply apart from a temperature's; and when a request to its master does. What a frame asks is by the dialect's order; nothing here rests
+-- on what the dialect makes of a reading.
 use Prim.Native.Nat.{ℕ, _+_, _-_, _%_, _≤_, _<_}
 use mathlib.Core.Path.{_≡_}
-use mathlib.Core.Bool.{true, false}
+use mathlib.Core.Bool.{Bool, true, false, _&&_, not}
 use mathlib.Core.List.{List, [], _∷_, _++_}
+use lib.Dec.{eqb}
 use lib.ListN.{getD}
 use Rattle.wire.specs.Sum.{sumOf}
 use Rattle.figures.specs.Figure.{pairOf}
@@ -18,10 +20,17 @@ use Rattle.love.specs.Form.{filterOf}
 use Rattle.love.specs.Frame.{asked as loveAsked}
 use Rattle.love.specs.Answer.{addressOf as loveAddress}
 use Rattle.love.specs.declared.frame.Order.the-variants.{Probe as LoveProbe}
-use Rattle.lucid.specs.Answer.{asksProbe}
+use Rattle.lucid.specs.Answer.{named, asksProbe}
 use Rattle.datalink.specs.Frame.{addressIn, numIn, asked as datalinkAsked}
 use Rattle.datalink.specs.Answer.{iaOf}
 use Rattle.datalink.specs.declared.frame.Order.the-variants.{Interrogate}
+use Rattle.lecom_master.specs.declared.request.Task.the-variants.{Read as LecomRead}
+use Rattle.lecom_master.specs.declared.request.Request.{Request as LecomRequest}
+use Rattle.love_master.specs.declared.request.Task.the-variants.{Status}
+use Rattle.love_master.specs.declared.request.Request.{Request as LoveRequest}
+use Rattle.lucid_master.specs.Request.{Asking}
+use Rattle.lucid_master.specs.declared.request.Command.{Command}
+use Rattle.lucid_master.specs.declared.request.Command.the-variants.{GetIo, GetIoGroup, SetIo, SetIoGroup, GetParam, SetParam, Reset}
 
 -- another number, and other wire bytes
 abbrev pub OtherNumber : Reply → Reply → Type 0
@@ -91,3 +100,26 @@ pub record DatalinkAsks (card : Card) (f : List ℕ) (channel : ℕ) : Type 0 wh
 pub record DatalinkFault (f : List ℕ) (channel : ℕ) (r : Reply) : Type 0 where
   pub number : r .number ≡ 0
   pub byte : getD (r .bytes) (5 + (0x1000 + channel - addressIn f)) 0 ≡ 255
+
+-- a request to LECOM's master: a read of the channel's code, "Codes 60h to 63h are the probes"
+abbrev pub LecomRequests : LecomRequest → ℕ → Type 0
+LecomRequests q channel = q .task ≡ LecomRead (0x60 + channel)
+
+-- to Love's: its status, "For 00, probe 0"
+pub record LoveRequests (q : LoveRequest) (channel : ℕ) : Type 0 where
+  pub task : q .task ≡ Status
+  pub first : channel ≡ 0
+
+-- to LucidControl's: GetIo with the channel as P1, or GetIoGroup with a mask that names it, of another type than "10h demand"
+unfoldable pub asksChannel : Command → ℕ → ℕ → ℕ → Bool
+asksChannel GetIo p1 p2 channel = not (eqb p2 0x10) && eqb p1 channel
+asksChannel GetIoGroup p1 p2 channel = not (eqb p2 0x10) && named channel p1
+asksChannel SetIo p1 p2 channel = false
+asksChannel SetIoGroup p1 p2 channel = false
+asksChannel GetParam p1 p2 channel = false
+asksChannel SetParam p1 p2 channel = false
+asksChannel Reset p1 p2 channel = false
+
+-- and so of the whole request
+abbrev pub LucidRequests : Asking → ℕ → Type 0
+LucidRequests q channel = asksChannel (q .request .command) (q .request .p1) (q .request .p2) channel ≡ true

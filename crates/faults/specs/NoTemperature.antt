@@ -1,6 +1,7 @@
 -- "A failed probe is never answered as a temperature." Code 255 stands in a channel. An entry that is asked for this channel's probe gives
 -- its fault reply, and another reply for every code that is a temperature. An entry that is not asked for it gives the same number and
--- bytes whatever the code. 12 and 11 come first. docs/PROVED.md says which wrong programs this claim alone lets through.
+-- bytes whatever the code. 12 and 11 come first. A master that asked for the probe hears the fault, or that it is refused; one that did not
+-- hears the same whatever the code. docs/PROVED.md says which wrong programs this claim alone lets through.
 use Prim.Native.Nat.{ℕ, _≤_, _<_}
 use mathlib.Core.Path.{_≡_}
 use mathlib.Core.Bool.{true, false}
@@ -20,9 +21,24 @@ use Rattle.datalink.specs.Answer.{datalinkReply}
 use Rattle.receive.specs.Receive.{receiveReply, quietReply}
 use Rattle.receive.specs.declared.Dialect.{Dialect}
 use Rattle.image.specs.Entries.{writeImage, readImage}
-use Rattle.faults.specs.Dialects.{LecomAsks, LecomFault, LecomApart, LoveAsks, LoveFault, LucidAsks, LucidFault, LucidApart, DatalinkAsks, DatalinkFault, OtherBytes}
+use Rattle.asking.specs.Hearing.{Hearing}
+use Rattle.asking.specs.Hearing.Hearing.{Fault as HeardFault, Refused as HeardRefused}
+use Rattle.asking.specs.Claims.{Dialect as MasterAndCard, Askable, At}
+use Rattle.lecom_master.specs.Request.{made as lecomMade}
+use Rattle.lecom_master.specs.Heard.{heard as lecomHeard}
+use Rattle.lecom_master.specs.declared.request.Request.{Request as LecomRequest}
+use Rattle.love_master.specs.Request.{made as loveMade}
+use Rattle.love_master.specs.Heard.{heard as loveHeard}
+use Rattle.love_master.specs.declared.request.Request.{Request as LoveRequest}
+use Rattle.lucid_master.specs.Request.{Asking, made as lucidMade}
+use Rattle.lucid_master.specs.Heard.{heard as lucidHeard}
+use Rattle.masters.specs.Lecom.{lecomMaster}
+use Rattle.masters.specs.Love.{loveMaster}
+use Rattle.masters.specs.Lucid.{lucidMaster}
+use Rattle.masters.specs.Speaking.{Master, speaking}
+use Rattle.faults.specs.Dialects.{LecomAsks, LecomFault, LecomApart, LoveAsks, LoveFault, LucidAsks, LucidFault, LucidApart, DatalinkAsks, DatalinkFault, OtherBytes, LecomRequests, LoveRequests, LucidRequests}
 
--- a card's entries, so that wrong ones can be put to the claim
+-- a card's entries and the masters', so that wrong ones can be put to the claim
 pub record Entries : Type 0 where
   pub governor : Card → ℕ → Governor
   pub lecom : Card → ℕ → List ℕ → Reply
@@ -35,6 +51,9 @@ pub record Entries : Type 0 where
   pub quiet : Card → Dialect → Reply
   pub writeImage : Card → ℕ → Reply
   pub readImage : Card → List ℕ → Reply
+  pub lecomMaster : Master LecomRequest
+  pub loveMaster : Master LoveRequest
+  pub lucidMaster : Master Asking
 
 -- the written meanings, which the entries' contracts equate with the code
 abbrev pub asWritten : Entries
@@ -51,6 +70,9 @@ asWritten =
       quiet = λ card d. quietReply d card;
       writeImage = writeImage;
       readImage = readImage;
+      lecomMaster = record { made = lecomMade; heard = lecomHeard };
+      loveMaster = record { made = loveMade; heard = loveHeard };
+      lucidMaster = record { made = lucidMade; heard = lucidHeard };
     }
 
 -- the probe of a channel has failed
@@ -104,6 +126,32 @@ pub record GovernorOwes (entry : Card → ℕ → Governor) : Type 0 where
 abbrev pub Unasked : (Card → Reply) → Type 0
 Unasked entry = (card : Card) (channel code : ℕ) → channel < channels → SameAnswer (entry card) (entry (withCode card channel code))
 
+-- What a master owes, with the card that it speaks to: whatever a card with code 255 in a channel answers to a made request, the master that
+-- made it reads no temperature of that channel out of it. `Asks q channel`: the request asks for the channel's probe
+pub record MasterOwes (d : MasterAndCard) (Asks : d .Request → ℕ → Type 0) (said : Hearing) : Type 0 where
+  -- the request asks for a probe that has failed: that is what is heard
+  pub fault : (q : d .Request) → Askable d q → (card : Card) → At d q card → (channel room : ℕ) → 38 ≤ room → Failed card channel → Asks q channel
+      → d .heard q (d .reply card room (d .made q) .bytes) ≡ said
+  -- it does not ask for the probe: with every code in that channel the same is heard, whatever card and buffer
+  pub same : (q : d .Request) → Askable d q → (card : Card) (channel code room : ℕ) → channel < channels → (Asks q channel → ⊥)
+      → d .heard q (d .reply card room (d .made q) .bytes) ≡ d .heard q (d .reply (withCode card channel code) room (d .made q) .bytes)
+
+-- each master by its own terms. Document 02, M-102: "A fault is read as a fault in Love and LucidControl; LECOM's NAK says only refused"
+abbrev pub LecomMasterOwes : (Card → ℕ → List ℕ → Reply) → Master LecomRequest → Type 0
+LecomMasterOwes entry master = MasterOwes (speaking lecomMaster entry master) LecomRequests (HeardRefused [])
+
+abbrev pub LoveMasterOwes : (Card → ℕ → List ℕ → Reply) → Master LoveRequest → Type 0
+LoveMasterOwes entry master = MasterOwes (speaking loveMaster entry master) LoveRequests HeardFault
+
+abbrev pub LucidMasterOwes : (Card → ℕ → List ℕ → Reply) → Master Asking → Type 0
+LucidMasterOwes entry master = MasterOwes (speaking lucidMaster entry master) LucidRequests HeardFault
+
+-- all three, each with this card's entry of its dialect
+pub record MastersOwe (b : Entries) : Type 0 where
+  pub lecom : LecomMasterOwes (b .lecom) (b .lecomMaster)
+  pub love : LoveMasterOwes (b .love) (b .loveMaster)
+  pub lucid : LucidMasterOwes (b .lucid) (b .lucidMaster)
+
 -- each dialect by its own terms. Datalink's is the exception: it shows 255 itself, and no temperature code is shown so
 abbrev pub LecomOwes : (Card → ℕ → List ℕ → Reply) → Type 0
 LecomOwes entry = Owes entry LecomAsks (λ card f channel. LecomFault f) (λ card f channel. LecomApart f)
@@ -117,7 +165,7 @@ LucidOwes entry = Owes entry LucidAsks (λ card f channel. LucidFault) LucidApar
 abbrev pub DatalinkOwes : (Card → ℕ → List ℕ → Reply) → Type 0
 DatalinkOwes entry = Owes entry DatalinkAsks (λ card f channel. DatalinkFault f channel) (λ card f channel. OtherBytes)
 
--- the claim, of every entry
+-- the claim, of every entry and every master
 pub record NoTemperature (b : Entries) : Type 0 where
   pub governor : GovernorOwes (b .governor)
   pub lecom : LecomOwes (b .lecom)
@@ -130,3 +178,4 @@ pub record NoTemperature (b : Entries) : Type 0 where
   pub quiet : (d : Dialect) → Unasked (λ card. b .quiet card d)
   pub writeImage : (room : ℕ) → Unasked (λ card. b .writeImage card room)
   pub readImage : (img : List ℕ) → Unasked (λ card. b .readImage card img)
+  pub masters : MastersOwe b

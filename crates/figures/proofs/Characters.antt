@@ -46,6 +46,16 @@ figure-char v h = by (decLt v 10)
         let x = 65 + (v - 10) in
         simp (le-ltb v 10 (omega arith), in-range-above 48 57 x (omega arith), in-range-yes 65 70 x (omega arith) (omega arith)) (omega arith)
 
+-- a figure's character is no control character and no sign
+pub char-least : (v : ℕ) → zeroChar ≤ charOf v
+unfolding charOf
+char-least v = by-choice (λ (n : ℕ). zeroChar ≤ n) (ltb v 10) _ _ (λ _. omega arith) (λ _. omega arith)
+
+-- the characters of two figures
+pub pair-all : (limit a b : ℕ) → a < base → b < base → a < limit → b < limit → allFigures limit (charOf a ∷ charOf b ∷ []) ≡ true
+unfolding allFigures
+pair-all limit a b ha hb la lb = simp (figure-char a ha, figure-char b hb, lt-ltb a limit la, lt-ltb b limit lb)
+
 -- ok tells of the characters passed: one more, and none left
 pub all-next : (limit : ℕ) (ok : Bool) (s : List ℕ) (i : ℕ) → i < length s
     → (ok && allFigures limit (drop i s)) ≡ ((ok && ltb (figureOf (getD s i 0)) limit) && allFigures limit (drop (suc i) s))

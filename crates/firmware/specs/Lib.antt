@@ -1,2 +1,4 @@
 pub mod Lent
 pub mod Phases
+pub mod Requests
+pub mod Hearing

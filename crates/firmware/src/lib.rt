@@ -1,4 +1,9 @@
 // The card's entries for firmware in C: thin, each with the whole contract of the entry below it. include/nakshvilor.h describes them.
+mod hearing;
+mod lecom_entries;
+mod love_entries;
+mod lucid_entries;
+
 use card::Outcome;
 use card::governor::Governor;
 use card::numbers::ANSWERED;
@@ -85,7 +90,7 @@ pub extern "C" fn nk_governor(
 }
 
 // Hands an outcome over: the answer's length is stored, and the number returned.
-fn hand_over(given: Outcome, len: &mut usize) -> u8
+pub(crate) fn hand_over(given: Outcome, len: &mut usize) -> u8
     ensures { λ r. ⌜ Handed (given .number) (given .len) r (now (len .exit)) ⌝ }
 {
     *len = given.len;

@@ -1,31 +1,31 @@
 -- What is known of a frame: bounds of its places, and that what it asks is sound. Assumes nothing.
 use Prim.{tt}
-use Prim.Native.Nat.{ℕ, suc, _+_, _≤_}
+use Prim.Native.Nat.{ℕ, suc, _+_, _≤_, _<_}
 use mathlib.Core.Path.{_≡_, refl}
-use mathlib.Core.Bool.{Bool, true, false, _&&_, not}
-use mathlib.Core.List.{List}
+use mathlib.Core.Bool.{Bool, true, false, _&&_}
+use mathlib.Core.List.{List, [], _∷_}
 use native.Mathlib.Omega.{arith}
-use borrow.Author.Tests.{le-leb, leb-true, eqb-true, ltb-false}
+use borrow.Author.Tests.{leb-true, eqb-true, ltb-true}
 use lib.Bits.{bitXor}
 use lib.Dec.{leb, ltb, eqb}
 use lib.ListN.{length, getD, drop}
 use lib.Seq.{drop-cons}
 use Rattle.wire.specs.Choose.{choose}
 use Rattle.wire.specs.Word.{minus}
-use Rattle.wire.proofs.Tests.{and-true, or-true-right}
+use Rattle.wire.proofs.Tests.{and-true}
 use Rattle.wire.proofs.Cases.{by-choice, no}
-use Rattle.figures.specs.Figure.{decimal, upperHex, noByte, allFigures}
-use Rattle.figures.specs.Decimal.{valueOf}
-use Rattle.figures.specs.Signed.{minusChar, withSign, figuresOf, parsedOf}
+use Rattle.figures.specs.Figure.{decimal, upperHex, noByte, figureOf, allFigures}
 use Rattle.figures.specs.declared.Parsed.{Parsed}
+use Rattle.figures.specs.declared.Parsed.the-variants.{Value, Wrong}
 use Rattle.figures.proofs.Characters.{pair-at-most}
 use Rattle.card.specs.Numbers.{frameForm, checkCharacter, rangeUnknown, valueOutside, readOnly}
 use Rattle.card.specs.Fitness.{inSpan, registerMost}
 use Rattle.lecom.specs.Form.{lengthRight, startAt, standardHex, extendedHex, dataLeast, dataMost, closing, lastRegister, firstProbe, lastProbe, activate, store, namedBy}
-use Rattle.lecom.specs.Frame.{isWrite, codeAt, isExtended, hexAt, codeEnd, sizeRight, endRight, pairIn, xorFrom, codeNumber, subcodeRight, namedIn, dataOf, dataRead, valueIn, ordered, asked}
+use Rattle.lecom.specs.Frame.{figuresRight, tensIn, onesIn, isWrite, codeAt, isExtended, hexAt, codeEnd, sizeRight, endRight, pairIn, xorFrom, codeNumber, subcodeRight, namedIn, dataOf, dataRead, valueIn, ordered, asked}
 use Rattle.lecom.specs.Stages.{Has, Sound, orderHere}
 use Rattle.lecom.specs.declared.frame.Order.{Order}
 use Rattle.lecom.specs.declared.frame.Order.the-variants.{Silent, Refused}
+use Rattle.lecom.proofs.Values.{RangedIn, parsed-ranged}
 
 -- Places
 
@@ -67,6 +67,11 @@ pub standard-code : (f : List ℕ) → isExtended f ≡ false → codeEnd f ≡ 
 unfolding codeEnd hexAt choose
 standard-code f h = rw h
 
+-- where a standard code's hex characters begin
+pub standard-hex : (f : List ℕ) → isExtended f ≡ false → hexAt f ≡ codeAt f
+unfolding hexAt choose
+standard-hex f h = rw h
+
 -- two hex characters are a byte, or the mark for none
 pub pair-most : (f : List ℕ) (at : ℕ) → pairIn f at ≤ noByte
 unfolding pairIn
@@ -88,6 +93,17 @@ write-holds f w h =
     let b = and-true (leb (codeEnd f + dataLeast + closing) (length f)) (leb (length f) (codeEnd f + dataMost + closing)) k in
     (leb-true (codeEnd f + dataLeast + closing) (length f) (b .0), leb-true (length f) (codeEnd f + dataMost + closing) (b .1))
 
+-- address figures are below ten
+pub figures-small : (f : List ℕ) → 3 ≤ length f → figuresRight f ≡ true → (tensIn f < decimal) × (onesIn f < decimal)
+unfolding figuresRight allFigures tensIn onesIn
+figures-small [] l h = let z : ⊥ = omega arith in absurd z
+figures-small (a ∷ []) l h = let z : ⊥ = omega arith in absurd z
+figures-small (a ∷ b ∷ []) l h = let z : ⊥ = omega arith in absurd z
+figures-small (a ∷ b ∷ c ∷ r) l h =
+    let x = and-true (ltb (figureOf b) decimal) _ h in
+    let y = and-true (ltb (figureOf c) decimal) true (x .1) in
+    (ltb-true (figureOf b) decimal (x .0), ltb-true (figureOf c) decimal (y .0))
+
 -- one byte more of a block check character
 pub xor-next : (x : ℕ) (s : List ℕ) (i : ℕ) → suc i ≤ length s → xorFrom x (drop i s) ≡ xorFrom (bitXor x (getD s i 0)) (drop (suc i) s)
 unfolding xorFrom
@@ -95,7 +111,7 @@ xor-next x s i h = rw (drop-cons s i 0 h)
 
 -- What is named
 
-named-has : (code : ℕ) → Has (namedBy code)
+pub named-has : (code : ℕ) → Has (namedBy code)
 unfolding namedBy
 named-has code =
     by-choice Has (leb code lastRegister) _ _ (λ h. omega (arith, leb-true code lastRegister h))
@@ -109,44 +125,15 @@ frame-has f = by-choice Has (subcodeRight f) _ _ (λ _. named-has (codeNumber f)
 
 -- What is written
 
--- the range of a register
-abbrev inRange : ℕ → Bool
-inRange = inSpan (minus registerMost) registerMost
-
--- a number of at most six figures, and the word of its negative
-range-low : (x : ℕ) → x ≤ registerMost → inRange x ≡ true
-unfolding inSpan choose
-range-low x h = rw (le-leb x registerMost h) (or-true-right (leb (minus registerMost) x))
-
-range-high : (x : ℕ) → minus registerMost ≤ x → inRange x ≡ true
-unfolding inSpan choose
-range-high x h = rw (le-leb (minus registerMost) x h)
-
-range-sign : (negative : Bool) (m : ℕ) → m ≤ registerMost → inRange (withSign negative m) ≡ true
-unfolding withSign
-range-sign negative m h =
-    by-choice (λ (x : ℕ). inRange x ≡ true) (not negative) _ _
-    (λ _. range-low m h)
-    (λ _. by-choice (λ (x : ℕ). inRange x ≡ true) (eqb m 0) _ _ (λ _. range-low 0 (omega arith)) (λ _. range-high (minus m) (omega arith)))
-
 -- the value of a write's data is in range; so is the 0 that stands for none
-Ranged : Parsed → Type 0
-Ranged p = inRange (valueIn p) ≡ true
+value-range : (p : Parsed) → RangedIn p → inSpan (minus registerMost) registerMost (valueIn p) ≡ true
+unfolding valueIn inSpan choose
+value-range Wrong h = refl
+value-range (Value value) h = h value refl .within
 
-figures-range : (negative : Bool) (s : List ℕ) → Ranged (figuresOf registerMost negative s)
-unfolding Ranged figuresOf valueIn
-figures-range negative s =
-    let none : inRange 0 ≡ true = range-low 0 (omega arith) in
-    by-choice Ranged (eqb (length s) 0) _ _ (λ _. none)
-    (λ _. by-choice Ranged (not (allFigures decimal s)) _ _ (λ _. none)
-    (λ _. by-choice Ranged (ltb registerMost (valueOf s)) _ _ (λ _. none)
-    (λ h. range-sign negative (valueOf s) (ltb-false registerMost (valueOf s) h))))
-
-data-range : (f : List ℕ) → inRange (valueIn (dataRead f)) ≡ true
-unfolding Ranged dataRead parsedOf valueIn
-data-range f =
-    by-choice Ranged (eqb (length (dataOf f)) 0) _ _ (λ _. range-low 0 (omega arith))
-    (λ _. by-choice Ranged (eqb (getD (dataOf f) 0 0) minusChar) _ _ (λ _. figures-range true (drop 1 (dataOf f))) (λ _. figures-range false (dataOf f)))
+data-range : (f : List ℕ) → inSpan (minus registerMost) registerMost (valueIn (dataRead f)) ≡ true
+unfolding dataRead
+data-range f = value-range (dataRead f) (parsed-ranged (dataOf f))
 
 -- What is asked
 

@@ -1,5 +1,7 @@
+pub mod Values
 pub mod Frames
 pub mod Codes
+pub mod Passing
 pub mod Writes
 pub mod Laws
 pub mod Fits

@@ -1,4 +1,5 @@
 -- LECOM's receiver hands over every frame that is taken as a read or a write. Assumes nothing.
+use Prim.{tt}
 use mathlib.Core.Path.{_≡_, refl, sym, ap, _∙_, subst}
 use mathlib.Core.Bool.{Bool, true, false}
 use mathlib.Core.List.{List, [], _∷_, _++_}
@@ -11,7 +12,7 @@ use lib.ListN.{length, drop, getD, length-append, length-take, length-drop, List
 use lib.Seq.{getD-take, getD-drop, getD-append-seam, append-snoc}
 use Rattle.wire.specs.Choose.{choose}
 use Rattle.wire.specs.Buffer.{part}
-use Rattle.wire.proofs.Cases.{by-choice, passed}
+use Rattle.wire.proofs.Cases.{by-choice}
 use Rattle.wire.proofs.Lengths.{between-facts}
 use Rattle.receiver.specs.Step.{among, grown}
 use Rattle.receiver.specs.Step.Fate.{Finished}
@@ -23,12 +24,13 @@ use Rattle.figures.specs.declared.Parsed.{Parsed}
 use Rattle.figures.specs.declared.Parsed.the-variants.{Wrong}
 use Rattle.figures.proofs.Characters.{all-above, part-above}
 use Rattle.card.specs.Fitness.{registerMost}
-use Rattle.card.specs.Numbers.{foreignAddress, frameForm, checkCharacter, rangeUnknown, valueOutside, readOnly}
 use Rattle.lecom.specs.Form.{shortest, longest, stx, etx, eot, enq, extendedMark, tensAt, startAt, closing}
 use Rattle.lecom.specs.Frame.{figuresRight, isWrite, codeAt, isExtended, hexAt, codeEnd, sizeRight, endRight, codeRight, namedIn, dataOf, dataRead, valueRight, dataRight, asked}
 use Rattle.lecom.specs.Receiver.{step, heldBehindStx, heldBehindEot}
-use Rattle.lecom.specs.declared.frame.Order.the-variants.{Silent, Refused}
+use Rattle.lecom.specs.declared.frame.Order.{Order}
+use Rattle.lecom.specs.declared.frame.Order.the-variants.{Silent, Refused, Read, Write}
 use Rattle.lecom.proofs.Frames.{bounds, size-holds, write-holds, read-start, write-start}
+use Rattle.lecom.proofs.Passing.{Obeyed, order-passed}
 use Rattle.lecom.proofs.Receiver.{endsIn, last-cons, held-begun, among-begun, next-begun, held-leads}
 
 -- characters above every control character of the dialect
@@ -171,15 +173,15 @@ module _ (t o s : ℕ) (l : List ℕ) (ht : enq < t) (ho : enq < o) (es : eqb s 
       let m = length-append l (etx ∷ []) in
       whole step (x ∷ p) b (held-leads (x ∷ p) (held-begun x p (record { first = e; fits = omega arith; reads = write-reads }))) (closes-last x p b e write-has (ends-last etx (t ∷ o ∷ s ∷ l)) (omega arith))
 
-read-size : (f : List ℕ) → isWrite f ≡ false → sizeRight f ≡ true → length f ≡ codeEnd f + 1
+pub read-size : (f : List ℕ) → isWrite f ≡ false → sizeRight f ≡ true → length f ≡ codeEnd f + 1
 unfolding sizeRight choose
 read-size f e h = eqb-true (length f) (codeEnd f + 1) (rw e at h)
 
-read-end : (f : List ℕ) → isWrite f ≡ false → endRight f ≡ true → getD f (length f - 1) 0 ≡ enq
+pub read-end : (f : List ℕ) → isWrite f ≡ false → endRight f ≡ true → getD f (length f - 1) 0 ≡ enq
 unfolding endRight choose
 read-end f e h = eqb-true (getD f (length f - 1) 0) enq (rw e at h)
 
-write-end : (f : List ℕ) → isWrite f ≡ true → endRight f ≡ true → getD f (length f - closing) 0 ≡ etx
+pub write-end : (f : List ℕ) → isWrite f ≡ true → endRight f ≡ true → getD f (length f - closing) 0 ≡ etx
 unfolding endRight choose
 write-end f e h = eqb-true (getD f (length f - closing) 0) etx (rw e at h)
 
@@ -261,27 +263,15 @@ whole-taken (x ∷ t ∷ o ∷ s ∷ r) k = go (isWrite (x ∷ t ∷ o ∷ s ∷
         let (p, b, e) = snoc (t ∷ o ∷ s ∷ r) (omega arith) in
         subst (λ (q : List ℕ). Whole step (x ∷ q)) (sym e) (whole-read x p b (subst (λ (q : List ℕ). Taken (x ∷ q)) e k) (subst (λ (q : List ℕ). isWrite (x ∷ q) ≡ false) e w))
 
+-- an order that neither is silent nor refuses
+order-obeyed : (o : Order) → ((n : ℕ) → o ≡ Silent n → ⊥) → ((n : ℕ) → o ≡ Refused n → ⊥) → Obeyed o
+order-obeyed (Silent number) u r = u number refl
+order-obeyed (Refused number) u r = r number refl
+order-obeyed (Read named) u r = tt
+order-obeyed (Write named value) u r = tt
+
 -- every frame that LECOM takes as a read or a write
 pub whole-asked : (address : ℕ) (f : List ℕ) → ((n : ℕ) → asked address f ≡ Silent n → ⊥) → ((n : ℕ) → asked address f ≡ Refused n → ⊥) → Whole step f
-unfolding asked
 whole-asked address f u r =
-    let a = passed _ _ _ (u frameForm) in
-    let b = passed _ _ _ (λ e. u frameForm (a .1 ∙ e)) in
-    let b′ = a .1 ∙ b .1 in
-    let c = passed _ _ _ (λ e. u frameForm (b′ ∙ e)) in
-    let c′ = b′ ∙ c .1 in
-    let d = passed _ _ _ (λ e. u foreignAddress (c′ ∙ e)) in
-    let d′ = c′ ∙ d .1 in
-    let g = passed _ _ _ (λ e. r frameForm (d′ ∙ e)) in
-    let g′ = d′ ∙ g .1 in
-    let h = passed _ _ _ (λ e. r frameForm (g′ ∙ e)) in
-    let h′ = g′ ∙ h .1 in
-    let i = passed _ _ _ (λ e. r frameForm (h′ ∙ e)) in
-    let i′ = h′ ∙ i .1 in
-    let j = passed _ _ _ (λ e. r checkCharacter (i′ ∙ e)) in
-    let j′ = i′ ∙ j .1 in
-    let l = passed _ _ _ (λ e. r rangeUnknown (j′ ∙ e)) in
-    let l′ = j′ ∙ l .1 in
-    let m = passed _ _ _ (λ e. r readOnly (l′ ∙ e)) in
-    let n = passed _ _ _ (λ e. r valueOutside (l′ ∙ m .1 ∙ e)) in
-    whole-taken f (record { long = between-facts shortest longest (length f) (a .0); first = b .0; figures = c .0; sized = g .0; ended = h .0; coded = i .0; given = n .0 })
+    let p = order-passed address f (order-obeyed (asked address f) u r) in
+    whole-taken f (record { long = between-facts shortest longest (length f) (p .long); first = p .starts; figures = p .figured; sized = p .sized; ended = p .ended; coded = p .coded; given = p .valued })

@@ -73,7 +73,7 @@ pub enum Named {
 }
 
 // What the code of a number names. Nothing else in the card decides this.
-pub(crate) fn named_by(code: u32) -> Named
+pub fn named_by(code: u32) -> Named
     ensures { λ r. ⌜ r ≡ namedBy code ⌝ }
 {
     if code <= Lecom::LAST_REGISTER {
@@ -91,7 +91,7 @@ pub(crate) fn named_by(code: u32) -> Named
     Named::Nothing
 }
 
-pub(crate) fn is_known(named: Named) -> bool
+pub fn is_known(named: Named) -> bool
     ensures { λ r. ⌜ r ≡ known named ⌝ }
 {
     match named {
@@ -103,7 +103,7 @@ pub(crate) fn is_known(named: Named) -> bool
     }
 }
 
-pub(crate) fn is_writable(named: Named) -> bool
+pub fn is_writable(named: Named) -> bool
     ensures { λ r. ⌜ r ≡ writable named ⌝ }
 {
     match named {
@@ -129,7 +129,7 @@ fn is_free(named: Named) -> bool
 }
 
 // Whether what is named takes a value.
-pub(crate) fn is_taken(named: Named, value: u32) -> bool
+pub fn is_taken(named: Named, value: u32) -> bool
     ensures { λ r. ⌜ r ≡ takes named value ⌝ }
 {
     is_free(named) | (value <= 1)

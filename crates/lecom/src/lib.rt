@@ -2,7 +2,7 @@
 mod answer;
 pub mod collect;
 pub mod form;
-mod frame;
+pub mod frame;
 
 use card::Outcome;
 use card::ROOM_LEAST;

@@ -5,31 +5,16 @@ use mathlib.Core.List.{List, [], _∷_, _++_, append-assoc, append-nil}
 use Prim.Native.Nat.{ℕ, suc, _+_, _*_, _/_, _%_, _≤_, _<_}
 use native.Mathlib.Nat.{add-zero}
 use native.Mathlib.Omega.{arith}
-use lib.ListN.{length, take, drop, set, getD, length-append, take-append-drop}
-use lib.Seq.{length-take-le, take-at, drop-append-add, drop-drop, take-suc}
+use lib.ListN.{length, take, set, getD, length-append, take-append-drop}
+use lib.Seq.{length-take-le, take-suc}
 use Rattle.wire.specs.Buffer.{put}
-use Rattle.wire.proofs.Buffers.{length-put}
+use Rattle.wire.proofs.Buffers.{length-put, put-put}
 use Rattle.wire.proofs.Cases.{cases}
 use Rattle.figures.specs.Figure.{pairOf}
 use Rattle.figures.specs.Decimal.{shortest}
 use Rattle.figures.specs.Signed.{textOf}
 use Rattle.figures.proofs.Texts.{put-before}
 use Rattle.lines.specs.Text.{Put, space, spaced, told, entryOf, eight, eightMost, values}
-
--- a list put after a list that was put
-pub put-put : (d : List ℕ) (at : ℕ) (a b : List ℕ) → at ≤ length d → put (put d at a) (at + length a) b ≡ put d at (a ++ b)
-unfolding put
-put-put d at a b h =
-    let p = take at d ++ a in
-    let n = at + length a in
-    let r = drop n d in
-    let l : length p ≡ n = length-append (take at d) a ∙ ap (λ (k : ℕ). k + length a) (length-take-le at d h) in
-    let e : take at d ++ (a ++ r) ≡ p ++ r = sym (append-assoc (take at d) a r) in
-    let t : take n (take at d ++ (a ++ r)) ≡ p = ap (take n) e ∙ take-at p r n l in
-    let s : drop (n + length b) (take at d ++ (a ++ r)) ≡ drop (n + length b) d =
-    ap (drop (n + length b)) e ∙ ap (λ (k : ℕ). drop (k + length b) (p ++ r)) (sym l) ∙ drop-append-add p r (length b) ∙ drop-drop (length b) n d in
-    let m : at + length (a ++ b) ≡ n + length b = rw length-append (omega arith) in
-    rw (t, s, m) (simp append-assoc)
 
 -- a text and then another
 pub put-then : {m n at r₁ r₂ : ℕ} {a b d d₁ d₂ : List ℕ} → at ≤ length d → Put m at a d r₁ d₁ → Put n r₁ b d₁ r₂ d₂ → Put (m + n) at (a ++ b) d r₂ d₂

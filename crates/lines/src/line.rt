@@ -7,10 +7,12 @@ use figures::NO_BYTE;
 use figures::NO_VALUE;
 use figures::sheet::Sheet;
 ghost use mathlib.Core.Path.{_≡_};
+ghost use mathlib.Core.Bool.{true};
 ghost use Prim.Native.Nat.{_+_, _*_, _≤_, _<_};
 ghost use lib.ListN.{length};
 ghost use Rattle.wire.specs.Buffer.{same};
 ghost use Rattle.figures.specs.Figure.{noByte};
+ghost use Rattle.figures.specs.Decimal.{noValue};
 ghost use Rattle.figures.specs.Sheet.{IsSheet};
 ghost use Rattle.lines.specs.Lent.{lineMost, Joined};
 
@@ -97,7 +99,9 @@ pub fn is_word(word: &[u8], name: &[u8]) -> bool
 }
 
 // The value of a word of decimal figures, or NO_VALUE.
-fn number_in(word: &[u8]) -> u64 {
+fn number_in(word: &[u8]) -> u64
+    ensures { λ r. ⌜ (length (now (word .entry)) ≡ 0 → r ≡ noValue) ⌝ }
+{
     if word.len() == 0 {
         return NO_VALUE;
     }
@@ -117,7 +121,7 @@ pub struct Number {
 // The word at at as a number of at most most.
 pub fn read_number(s: &[u8], at: usize, most: u32) -> Number
     requires { ⌜ at ≤ length (now s) ⌝ }
-    ensures { λ r. ⌜ (r .value ≤ most) × (r .next ≤ length (now (s .entry))) ⌝ }
+    ensures { λ r. ⌜ (r .value ≤ most) × ((r .next ≤ length (now (s .entry))) × (r .right ≡ true → at < r .next)) ⌝ }
 {
     let word = read_word(s, at);
     let end = word.end;

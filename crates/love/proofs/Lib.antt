@@ -1,5 +1,8 @@
 pub mod Frames
 pub mod Carried
+pub mod Passes
+pub mod Hosts
+pub mod Unique
 pub mod Writes
 pub mod Laws
 pub mod Fits

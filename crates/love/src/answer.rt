@@ -36,21 +36,21 @@ const POSITIVE: u8 = 0x00;
 const NEGATIVE: u8 = 0x01;
 
 // How many figures a number has in a reply.
-const FIGURES: usize = 4;
+pub const FIGURES: usize = 4;
 
 // The data for 00: how many characters stand before its figures; the first without and with a fault; and the fourth of a negative
 // number. Any other is ZERO.
-const STATUS_SIZE: usize = 4;
+pub const STATUS_SIZE: usize = 4;
 
-const FINE: u8 = b'C';
+pub const FINE: u8 = b'C';
 
-const FAULT: u8 = b'D';
+pub const FAULT: u8 = b'D';
 
-const BELOW_ZERO: u8 = b'2';
+pub const BELOW_ZERO: u8 = b'2';
 
-// Writes what begins every reply: STX, filter and address.
-fn put_unit(out: &mut [u8], address: u32)
-    requires { ⌜ (address ≤ loveAddressMost) × (roomLeast ≤ length (now out)) ⌝ }
+// Writes what begins every reply, and every frame: STX, filter and address.
+pub fn put_unit(out: &mut [u8], address: u32)
+    requires { ⌜ (address ≤ loveAddressMost) × (dataAt ≤ length (now out)) ⌝ }
     ensures { λ _. ⌜ Wrote (stx ∷ unitOf address) (now (out .entry)) dataAt (now (out .exit)) ⌝ }
 {
     out[0] = Love::STX;
@@ -70,7 +70,7 @@ fn put_end(out: &mut [u8], end: usize) -> usize
 }
 
 // Writes an error reply.
-fn put_error(out: &mut [u8], address: u32, code: u8) -> usize
+pub fn put_error(out: &mut [u8], address: u32, code: u8) -> usize
     requires { ⌜ (address ≤ loveAddressMost) × (roomLeast ≤ length (now out)) ⌝ }
     ensures { λ r. ⌜ Wrote (errorReply address code) (now (out .entry)) r (now (out .exit)) ⌝ }
 {
@@ -83,7 +83,7 @@ fn put_error(out: &mut [u8], address: u32, code: u8) -> usize
 }
 
 // Writes the reply to a write.
-fn put_written(out: &mut [u8], address: u32) -> usize
+pub fn put_written(out: &mut [u8], address: u32) -> usize
     requires { ⌜ (address ≤ loveAddressMost) × (roomLeast ≤ length (now out)) ⌝ }
     ensures { λ r. ⌜ Wrote (normalReply address writtenData) (now (out .entry)) r (now (out .exit)) ⌝ }
 {
@@ -100,7 +100,7 @@ fn sign_of(word: u32) -> u8
 }
 
 // Writes the reply to a read.
-fn put_value(out: &mut [u8], address: u32, word: u32) -> usize
+pub fn put_value(out: &mut [u8], address: u32, word: u32) -> usize
     requires { ⌜ (address ≤ loveAddressMost) × (roomLeast ≤ length (now out)) ⌝ }
     ensures { λ r. ⌜ Wrote (normalReply address (valueData word)) (now (out .entry)) r (now (out .exit)) ⌝ }
 {
@@ -112,7 +112,7 @@ fn put_value(out: &mut [u8], address: u32, word: u32) -> usize
 }
 
 // Writes the reply to 00.
-fn put_status(out: &mut [u8], address: u32, first: u8, fourth: u8, number: u32) -> usize
+pub fn put_status(out: &mut [u8], address: u32, first: u8, fourth: u8, number: u32) -> usize
     requires { ⌜ (address ≤ loveAddressMost) × (roomLeast ≤ length (now out)) ⌝ }
     ensures { λ r. ⌜ Wrote (normalReply address (statusData first fourth number)) (now (out .entry)) r (now (out .exit)) ⌝ }
 {

@@ -1,5 +1,5 @@
 // The Love dialect. Document 01, "Love"; source document 004.
-mod answer;
+pub mod answer;
 pub mod collect;
 pub mod form;
 mod frame;

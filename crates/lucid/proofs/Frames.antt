@@ -55,7 +55,7 @@ module _ (opc p1 p2 : ℕ) (f : List ℕ) (sized : Sized opc p1 p2 f) where
       let d : eqb p2 demand ≡ true = rw s at w in
       rw (g, s, d) at (sized .measured)
 
-place-within : (channel address : ℕ) → channel < channels → placeOf channel address < parameterCount
+pub place-within : (channel address : ℕ) → channel < channels → placeOf channel address < parameterCount
 unfolding placeOf
 place-within channel address h = by-choice (λ (n : ℕ). n < parameterCount) _ _ _ (λ _. omega arith) (λ _. omega arith)
 

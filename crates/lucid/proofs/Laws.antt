@@ -86,7 +86,7 @@ fault card room f channel h a code =
     ap (λ (r : WordsReply). shell roomLeast card room (onWords card r)) (order-fault (card .words) (card .memory) f (asked f) channel h a code)
 
 -- two memories that agree on the probes asked for
-group-same : (value value′ : ℕ → Values) (n k mask : ℕ) → ((channel : ℕ) → channel < n → named channel mask ≡ true → value (k + channel) ≡ value′ (k + channel))
+pub group-same : (value value′ : ℕ → Values) (n k mask : ℕ) → ((channel : ℕ) → channel < n → named channel mask ≡ true → value (k + channel) ≡ value′ (k + channel))
     → group value (channelsFrom n k mask) ≡ group value′ (channelsFrom n k mask)
 unfolding channelsFrom named group choose
 group-same value value′ zero k mask same = none

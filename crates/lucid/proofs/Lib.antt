@@ -1,5 +1,7 @@
 pub mod Channels
+pub mod Numbers
 pub mod Frames
+pub mod Passing
 pub mod Writes
 pub mod Laws
 pub mod Fits

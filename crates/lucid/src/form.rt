@@ -93,7 +93,7 @@ impl Lucid {
     }
 
     // How many bytes a value of a type has.
-    pub(crate) fn size(value_type: u8) -> u8
+    pub fn size(value_type: u8) -> u8
         ensures { λ r. ⌜ (r ≡ sizeOf «value_type») × (r ≤ hundredthsSize) ⌝ }
     {
         if value_type == Lucid::DEMAND {

@@ -17,14 +17,14 @@ ghost use Prim.Native.Nat.{_+_, _*_, _<_, _≤_};
 ghost use lib.ListN.{length};
 ghost use Rattle.wire.specs.Sum.{byteValues};
 ghost use Rattle.card.specs.Layout.{channels};
-ghost use Rattle.lucid.specs.Form.{channelsOf, pairSize, numberAt, dataAt, valueAt, parameterSize};
-ghost use Rattle.lucid.specs.Frame.{isGet, isSet, isGroup, isParam, isReset, saves, opcKnown, channelRight, maskRight, typeKnown, typeWritable, optionRight, maskOf, lenFor, valueIn, addressKnown, placeOf, asked, lenIn};
+ghost use Rattle.lucid.specs.Form.{channelsOf, pairSize, numberAt, dataAt, parameterSize};
+ghost use Rattle.lucid.specs.Frame.{isGet, isSet, isGroup, isParam, isReset, saves, opcKnown, channelRight, maskRight, typeKnown, typeWritable, optionRight, maskOf, lenFor, addressKnown, placeOf, asked, lenIn};
 ghost use Rattle.lucid.specs.Stages.{parameterAsked, commandAsked, optionAsked, Sized, Addressed};
 
 // A number of two bytes: its bytes, and how many values it has.
-const PAIR: usize = 2;
+pub const PAIR: usize = 2;
 
-const PAIR_VALUES: u32 = BYTE_VALUES * BYTE_VALUES;
+pub const PAIR_VALUES: u32 = BYTE_VALUES * BYTE_VALUES;
 
 // A channel's parameters.
 const EACH: u8 = PARAMETERS_EACH as u8;
@@ -129,7 +129,7 @@ fn option_right(opc: u8, p2: u8) -> bool
 }
 
 // How many channels a mask names.
-fn count(mask: u8) -> u8
+pub fn count(mask: u8) -> u8
     ensures { λ r. ⌜ (r ≡ length (channelsOf mask)) × (r ≤ channels) ⌝ }
 {
     mask % 2 + mask / 2 % 2 + mask / 4 % 2 + mask / 8 % 2
@@ -167,7 +167,7 @@ fn len_for(opc: u8, p1: u8, p2: u8) -> u8
 }
 
 // The number that two bytes are, low byte first.
-pub(crate) fn pair(f: &[u8], at: usize) -> u32
+pub fn pair(f: &[u8], at: usize) -> u32
     requires { ⌜ at + 1 < length (now f) ⌝ }
     ensures { λ r. ⌜ (r ≡ numberAt pairSize (now (f .entry)) at) × (r < byteValues * byteValues) ⌝ }
 {
@@ -176,22 +176,22 @@ pub(crate) fn pair(f: &[u8], at: usize) -> u32
     two_bytes(low, high) as u32
 }
 
-// The value of a frame that has one.
-fn value_in(f: &[u8]) -> u32
-    requires { ⌜ valueAt + parameterSize ≤ length (now f) ⌝ }
-    ensures { λ r. ⌜ r ≡ valueIn (now (f .entry)) ⌝ }
+// The number that four bytes are, low byte first.
+pub fn quad(f: &[u8], at: usize) -> u32
+    requires { ⌜ at + parameterSize ≤ length (now f) ⌝ }
+    ensures { λ r. ⌜ r ≡ numberAt parameterSize (now (f .entry)) at ⌝ }
 {
-    pair(f, Lucid::VALUE) + PAIR_VALUES * pair(f, Lucid::VALUE + PAIR)
+    pair(f, at) + PAIR_VALUES * pair(f, at + PAIR)
 }
 
-fn address_known(address: u32) -> bool
+pub fn address_known(address: u32) -> bool
     ensures { λ r. ⌜ r ≡ addressKnown address ⌝ }
 {
     (address == Lucid::CYCLE) | (address == Lucid::FLOOR)
 }
 
 // A parameter's place: channel by channel, 1110h first.
-fn place_of(channel: u8, address: u32) -> u8
+pub fn place_of(channel: u8, address: u32) -> u8
     requires { ⌜ channel < channels ⌝ }
     ensures { λ r. ⌜ r ≡ placeOf channel address ⌝ }
 {
@@ -214,7 +214,7 @@ fn parameter_asked(opc: u8, p1: u8, p2: u8, f: &[u8]) -> Order
     if opc == Lucid::GET_PARAM {
         return Order::GetParam(place);
     }
-    let value = value_in(f);
+    let value = quad(f, Lucid::VALUE);
     if !in_range(PARAMETERS + place as usize, value) {
         return Order::Refused(VALUE_OUTSIDE, Lucid::INV_DATA);
     }

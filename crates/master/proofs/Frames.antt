@@ -1,5 +1,5 @@
 -- Laws of specs/Frames.antt: the data of a change, when two lists are the same, and when an answer is a response or an echo. Assumes nothing.
-use mathlib.Core.Path.{_≡_, refl, sym, ap, ap₂, _∙_, subst}
+use mathlib.Core.Path.{_≡_, refl, sym, ap, _∙_, subst}
 use mathlib.Core.Bool.{Bool, true, false, _&&_}
 use mathlib.Core.List.{List, [], _∷_, _++_, append-assoc}
 use Prim.{tt}
@@ -10,6 +10,7 @@ use borrow.Author.Tests.{eq-eqb, eqb-true, eqb-false}
 use lib.Dec.{eqb, lit≤}
 use lib.ListN.{length, getD, take, drop, set, length-append, length-take, length-drop, drop-of-length-le}
 use lib.Seq.{take-all, take-suc, take-add, take-append-seam, drop-cons, length-take-le}
+use Rattle.wire.proofs.Same.{same-refl, same-true}
 use Rattle.wire.proofs.Tests.{and-true, both, and-assoc, and-true-right, same-test}
 use Rattle.wire.specs.Buffer.{overlay, same, part}
 use Rattle.wire.specs.Sum.{sumOf, byteValues}
@@ -88,26 +89,7 @@ pub data-few : (a : Ask) → namedBy a ≤ namedMost a → paired a ≡ true →
 data-few (bytes sent) h e = h
 data-few (bits masks states) h e = omega (arith, pairs-length masks states (eqb-true (length masks) (length states) e))
 
--- what was written stands at the buffer's front
-pub overlay-front : (vs out : List ℕ) (n : ℕ) → n ≡ length vs → take n (overlay vs out) ≡ vs
-unfolding overlay
-overlay-front vs out n e = rw e (take-append-seam vs (drop (length vs) out))
-
 -- two lists of bytes
-
-pub same-self : (xs : List ℕ) → same xs xs ≡ true
-unfolding same
-same-self [] = refl
-same-self (x ∷ xs) = rw (eq-eqb x x refl, same-self xs)
-
-pub same-true : (xs ys : List ℕ) → same xs ys ≡ true → xs ≡ ys
-unfolding same
-same-true [] [] e = refl
-same-true [] (y ∷ ys) e = let z : _≡_ {A = ℕ} 0 1 = cc in let w : ⊥ = omega arith in absurd w
-same-true (x ∷ xs) [] e = let z : _≡_ {A = ℕ} 0 1 = cc in let w : ⊥ = omega arith in absurd w
-same-true (x ∷ xs) (y ∷ ys) e =
-    let p = and-true (eqb x y) (same xs ys) e in
-    ap₂ (λ (a : ℕ) (l : List ℕ). a ∷ l) (eqb-true x y (p .0)) (same-true xs ys (p .1))
 
 pub same-append : (xs us ys vs : List ℕ) → length xs ≡ length us → same (xs ++ ys) (us ++ vs) ≡ (same xs us && same ys vs)
 unfolding same
@@ -180,7 +162,7 @@ echo-parts q answer =
     (λ e. let p = and-true (same answer (showing shown)) (same shown d) e in ap (λ (l : List ℕ). same answer (showing l)) (sym (same-true shown d (p .1))) ∙ p .0)
     (λ e.
     let s : shown ≡ d = ap (dataIn n) (same-true answer (showing d) e) ∙ data-shown (q .ia) n (q .address) d refl in
-    both (ap (λ (l : List ℕ). same answer (showing l)) s ∙ e) (ap (λ (l : List ℕ). same l d) s ∙ same-self d))
+    both (ap (λ (l : List ℕ). same answer (showing l)) s ∙ e) (ap (λ (l : List ℕ). same l d) s ∙ same-refl d))
 
 pub echo-shows : (q : Request) (answer : List ℕ) (num : ℕ) → num ≡ length (dataOf (q .ask))
     → (responds (q .ia) num (q .address) answer && same (dataIn num answer) (dataOf (q .ask))) ≡ isEcho q answer
@@ -228,7 +210,7 @@ module _ (ia num address : ℕ) (answer : List ℕ) where
         let most : take (frameDataAt + num) answer ≡ front ++ shown = take-add frameDataAt num answer ∙ ap (λ (j : ℕ). front ++ take j (drop frameDataAt answer)) (sym n) in
         let whole : answer ≡ front ++ (shown ++ (x ∷ [])) =
         sym (take-all (suc (frameDataAt + num)) answer (omega arith)) ∙ take-suc answer (frameDataAt + num) 0 (omega arith) ∙ ap (λ (l : List ℕ). l ++ (x ∷ [])) most ∙ append-assoc front shown (x ∷ []) in
-        let rest : same (shown ++ (x ∷ [])) (shown ++ (lrc ∷ [])) ≡ eqb x lrc = same-append shown shown (x ∷ []) (lrc ∷ []) refl ∙ rw (same-self shown) (same-one x lrc) in
+        let rest : same (shown ++ (x ∷ [])) (shown ++ (lrc ∷ [])) ≡ eqb x lrc = same-append shown shown (x ∷ []) (lrc ∷ []) refl ∙ rw (same-refl shown) (same-one x lrc) in
         ap (λ (l : List ℕ). same l (head ++ (shown ++ (lrc ∷ [])))) whole
         ∙ same-append front head (shown ++ (x ∷ [])) (shown ++ (lrc ∷ [])) (length-take-le frameDataAt answer (omega arith))
         ∙ ap (λ (t : Bool). same front head && t) rest

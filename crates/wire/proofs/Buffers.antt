@@ -2,11 +2,11 @@
 use mathlib.Core.Path.{_≡_, refl, sym, ap, _∙_}
 use mathlib.Core.List.{List, [], _∷_, _++_, append-assoc}
 use Prim.Native.Nat.{ℕ, zero, suc, _+_, _-_, _≤_, _<_}
-use native.Mathlib.Nat.{zero-add}
+use native.Mathlib.Nat.{zero-add, add-zero}
 use native.Mathlib.Numerals.{add-one}
 use native.Mathlib.Omega.{arith}
-use lib.ListN.{length, take, drop, set, getD, length-append, length-drop, length-take}
-use lib.Seq.{take-append-seam, take-append-le, drop-append-add, set-append-seam, take-nil, take-take, drop-drop, drop-cons, take-add, take-all, getD-take, getD-drop, sets, sets-eq, set-at, drop-at, length-take-le}
+use lib.ListN.{length, take, drop, set, getD, length-append, length-drop, length-take, take-append-drop}
+use lib.Seq.{take-append-seam, take-append-le, drop-append-add, set-append-seam, take-nil, take-take, drop-drop, drop-cons, take-add, take-all, getD-take, getD-drop, sets, sets-eq, set-at, drop-at, length-take-le, take-at}
 use Rattle.wire.specs.Buffer.{put, overlay, part}
 
 pub overlay-none : (out : List ℕ) → overlay [] out ≡ out
@@ -21,11 +21,21 @@ pub overlay-sets : (vs out : List ℕ) → length vs ≤ length out → sets out
 unfolding overlay
 overlay-sets vs out h = sets-eq vs out 0 (omega arith) ∙ rw zero-add
 
+-- a list put at the front of a buffer
+pub put-front : (vs out : List ℕ) → put out 0 vs ≡ overlay vs out
+unfolding overlay put
+put-front vs out = rw zero-add
+
 -- a list put at the answer's end
 pub overlay-put : (vs d out : List ℕ) → put (overlay vs out) (length vs) d ≡ overlay (vs ++ d) out
 unfolding overlay put
 overlay-put vs d out =
     simp (take-append-seam, drop-append-add, drop-drop, length-append, append-assoc)
+
+-- the answer in its buffer
+pub overlay-front : (vs out : List ℕ) (n : ℕ) → n ≡ length vs → take n (overlay vs out) ≡ vs
+unfolding overlay
+overlay-front vs out n e = rw e (take-append-seam vs (drop (length vs) out))
 
 -- a byte put at the answer's end
 pub overlay-set : (vs out : List ℕ) (x : ℕ) → length vs < length out → set (overlay vs out) (length vs) x ≡ overlay (vs ++ (x ∷ [])) out
@@ -60,6 +70,26 @@ put-set d at vs x h =
 pub length-put : (d : List ℕ) (at : ℕ) (vs : List ℕ) → at + length vs ≤ length d → length (put d at vs) ≡ length d
 unfolding put
 length-put d at vs h = simp (length-append, length-take, length-drop) (omega arith)
+
+-- nothing put
+pub put-none : (d : List ℕ) (at : ℕ) → put d at [] ≡ d
+unfolding put
+put-none d at = rw add-zero (take-append-drop at d)
+
+-- a list put after a list that was put
+pub put-put : (d : List ℕ) (at : ℕ) (a b : List ℕ) → at ≤ length d → put (put d at a) (at + length a) b ≡ put d at (a ++ b)
+unfolding put
+put-put d at a b h =
+    let p = take at d ++ a in
+    let n = at + length a in
+    let r = drop n d in
+    let l : length p ≡ n = length-append (take at d) a ∙ ap (λ (k : ℕ). k + length a) (length-take-le at d h) in
+    let e : take at d ++ (a ++ r) ≡ p ++ r = sym (append-assoc (take at d) a r) in
+    let t : take n (take at d ++ (a ++ r)) ≡ p = ap (take n) e ∙ take-at p r n l in
+    let s : drop (n + length b) (take at d ++ (a ++ r)) ≡ drop (n + length b) d =
+    ap (drop (n + length b)) e ∙ ap (λ (k : ℕ). drop (k + length b) (p ++ r)) (sym l) ∙ drop-append-add p r (length b) ∙ drop-drop (length b) n d in
+    let m : at + length (a ++ b) ≡ n + length b = rw length-append (omega arith) in
+    rw (t, s, m) (simp append-assoc)
 
 -- two parts that meet
 pub part-append : (s : List ℕ) (a b e : ℕ) → a ≤ b → b ≤ e → part s a b ++ part s b e ≡ part s a e

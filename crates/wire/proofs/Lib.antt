@@ -4,6 +4,7 @@ pub mod Sums
 pub mod Buffers
 pub mod Moves
 pub mod Same
+pub mod Pieces
 pub mod Lengths
 pub mod Sweep
 pub mod Computed

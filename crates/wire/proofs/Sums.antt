@@ -14,6 +14,11 @@ total-suc [] i h = absurd (not-suc-le-zero h)
 total-suc (x ∷ s) zero h = omega arith
 total-suc (x ∷ s) (suc i) h = omega (arith, total-suc s i (le-of-suc-le-suc h))
 
+-- a sum is a byte
+pub sum-byte : (s : List ℕ) → sumOf s < byteValues
+unfolding sumOf
+sum-byte s = omega arith
+
 total-append : (a b : List ℕ) → total (a ++ b) ≡ total a + total b
 unfolding total
 total-append [] b = omega arith

@@ -1,6 +1,7 @@
 -- Tests joined by "and", "or" and "not". Assumes nothing.
 use mathlib.Core.Path.{_≡_, refl, sym}
 use mathlib.Core.Bool.{Bool, true, false, _&&_, _||_, not}
+use mathlib.Core.Logic.{_⊎_, inl, inr}
 
 pub and-true : (a b : Bool) → (a && b) ≡ true → (a ≡ true) × (b ≡ true)
 and-true true b h = (refl, h)
@@ -25,6 +26,10 @@ pub or-true-right : (t : Bool) → (t || true) ≡ true
 or-true-right true = refl
 or-true-right false = refl
 
+pub or-false-right : (t : Bool) → (t || false) ≡ t
+or-false-right true = refl
+or-false-right false = refl
+
 pub not-or : (a b : Bool) → not (a || b) ≡ (not a && not b)
 not-or true b = refl
 not-or false b = refl
@@ -35,6 +40,20 @@ same-test true b f g = sym (f refl)
 same-test false true f g = g refl
 same-test false false f g = refl
 
+pub or-true : (a b : Bool) → (a || b) ≡ true → (a ≡ true) ⊎ (b ≡ true)
+or-true true b h = inl refl
+or-true false b h = inr h
+
 pub neither : (a b : Bool) → (a || b) ≡ false → (a ≡ false) × (b ≡ false)
 neither true b h = (h, cc)
 neither false b h = (refl, h)
+
+-- one of two tests
+pub either : {P : Type 0} (a b : Bool) → (a || b) ≡ true → (a ≡ true → P) → (b ≡ true → P) → P
+either true b h f g = f refl
+either false b h f g = g h
+
+-- what is not true
+pub refuted : (t : Bool) → (t ≡ true → ⊥) → false ≡ t
+refuted true h = absurd (h refl)
+refuted false h = refl

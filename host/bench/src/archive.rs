@@ -121,6 +121,33 @@ extern "C" {
     ) -> u8;
 }
 
+/// What a master hears in a reply.
+#[repr(C)]
+#[derive(Clone, Copy)]
+pub struct Heard {
+    pub number: u8,
+    /// [`HEARD_NOTHING`] to [`HEARD_REFUSED`].
+    pub said: u8,
+    pub count: usize,
+    pub values: [i32; 4],
+}
+
+/// Declares the entries of the masters without phases: `ask` and `hear` take the same request before their own arguments.
+macro_rules! masters {
+    ($($ask:ident, $hear:ident($($argument:ident: $type:ty),*);)*) => {
+        extern "C" {
+            $(pub fn $ask($($argument: $type,)* frame: *mut u8, frame_count: usize, len: *mut usize) -> u8;
+            pub fn $hear($($argument: $type,)* reply: *const u8, reply_count: usize) -> Heard;)*
+        }
+    };
+}
+
+masters! {
+    nk_ask_lecom, nk_hear_lecom(address: u32, task: u8, code: u32, value: i32);
+    nk_ask_love, nk_hear_love(address: u32, task: u8, place: u32, value: i32);
+    nk_ask_lucid, nk_hear_lucid(command: u8, p1: u32, p2: u32, address: u32, values: *const u32, values_count: usize);
+}
+
 /// The master's phases that say something, and the one it begins with.
 pub const NEW: u8 = 0;
 pub const ENDED_DONE: u8 = 4;
@@ -128,3 +155,21 @@ pub const ENDED_UNKNOWN: u8 = 5;
 /// Kinds of a request.
 pub const BYTES: u8 = 0;
 pub const BITS: u8 = 1;
+/// Tasks in LECOM and Love.
+pub const READ: u8 = 0;
+pub const WRITE: u8 = 1;
+pub const STATUS: u8 = 2;
+/// Commands in LucidControl.
+pub const GET_IO: u8 = 0;
+pub const GET_IO_GROUP: u8 = 1;
+pub const SET_IO: u8 = 2;
+pub const SET_IO_GROUP: u8 = 3;
+pub const GET_PARAM: u8 = 4;
+pub const SET_PARAM: u8 = 5;
+pub const RESET: u8 = 6;
+/// What a reply says.
+pub const HEARD_NOTHING: u8 = 0;
+pub const HEARD_VALUE: u8 = 1;
+pub const HEARD_DONE: u8 = 2;
+pub const HEARD_FAULT: u8 = 3;
+pub const HEARD_REFUSED: u8 = 4;

@@ -2,10 +2,12 @@
 
 use reference::card::{governor, restart, set_probe, Card, Governor};
 use reference::master::{step, Master, Order, Request as MasterRequest, Says};
+use reference::masters::{lecom, love, lucid, Heard};
 use reference::numbers::{Number, Reply};
 use reference::receivers::{self, Received};
 
 use crate::archive::{self, Tables};
+use crate::questions::Questions;
 
 /// Room for every answer and for an image.
 const ROOM: usize = 320;
@@ -57,6 +59,12 @@ entries! {
     WriteImage: nk_write_image,
     ReadImage: nk_read_image,
     Step: nk_step,
+    AskLecom: nk_ask_lecom,
+    HearLecom: nk_hear_lecom,
+    AskLove: nk_ask_love,
+    HearLove: nk_hear_love,
+    AskLucid: nk_ask_lucid,
+    HearLucid: nk_hear_lucid,
 }
 
 /// A call: an entry and its arguments, as far as it has them.
@@ -64,12 +72,14 @@ pub struct Request {
     pub entry: Entry,
     pub channel: u32,
     pub code: u8,
-    /// The frame, the bytes that come, the image to read, or the bytes or masks that the master sends.
+    /// The frame, the bytes that come, the image to read, the bytes or masks that the line master sends, or a reply to
+    /// another master.
     pub bytes: Vec<u8>,
     pub ask: Ask,
+    pub questions: Questions,
 }
 
-/// The rest of the master's request, and the answer to its last frame; and both as the second program takes them, which
+/// The rest of the line master's request, and the answer to its last frame; and both as the second program takes them, which
 /// a caller makes once for an exchange.
 pub struct Ask {
     /// Whether the exchange begins with this step.
@@ -115,7 +125,18 @@ pub struct Bed {
     pub degrees: f32,
     pub phase: u8,
     pub master: Master,
+    pub heard: archive::Heard,
+    pub second_heard: Heard,
 }
+
+/// Nothing heard, and the number of no such call.
+const UNHEARD: archive::Heard = archive::Heard {
+    number: Number::Answered as u8,
+    said: archive::HEARD_NOTHING,
+    count: 0,
+    values: [0; 4],
+};
+const SECOND_UNHEARD: Heard = Heard::Nothing(Number::Answered);
 
 impl Bed {
     pub fn new(card: Card) -> Self {
@@ -129,6 +150,8 @@ impl Bed {
             degrees: 0.0,
             phase: archive::NEW,
             master: Master::new(),
+            heard: UNHEARD,
+            second_heard: SECOND_UNHEARD,
         }
     }
 }
@@ -221,6 +244,68 @@ macro_rules! archive_quiet {
     };
 }
 
+/// Calls an entry of the library with the request of LECOM's or Love's master before the arguments given.
+macro_rules! asked_of_unit {
+    ($name:ident, $question:expr, $($argument:expr),*) => {{
+        let question = &$question;
+        // As above: live vectors that do not overlap.
+        unsafe {
+            archive::$name(
+                question.address,
+                question.task,
+                question.place,
+                question.value,
+                $($argument),*
+            )
+        }
+    }};
+}
+
+/// The same with the request of LucidControl's master.
+macro_rules! asked_of_lucid {
+    ($name:ident, $question:expr, $($argument:expr),*) => {{
+        let question = &$question;
+        // As above: live vectors that do not overlap.
+        unsafe {
+            archive::$name(
+                question.command,
+                question.p1,
+                question.p2,
+                question.address,
+                question.values.as_ptr(),
+                question.values.len(),
+                $($argument),*
+            )
+        }
+    }};
+}
+
+/// The thunk of an entry in the library that makes a frame.
+macro_rules! archive_ask {
+    ($asked:ident, $name:ident, $dialect:ident) => {
+        |bed: &mut Bed, request: &Request| {
+            let frame = &mut bed.answer;
+            bed.number = $asked!(
+                $name,
+                request.questions.$dialect,
+                frame.as_mut_ptr(),
+                frame.len(),
+                &mut bed.len
+            );
+        }
+    };
+}
+
+/// The thunk of an entry in the library that reads a reply.
+macro_rules! archive_hear {
+    ($asked:ident, $name:ident, $dialect:ident) => {
+        |bed: &mut Bed, request: &Request| {
+            let reply = &request.bytes;
+            bed.heard = $asked!($name, request.questions.$dialect, reply.as_ptr(), reply.len());
+        }
+    };
+}
+
 fn archive_thunk(entry: Entry) -> Thunk {
     match entry {
         Entry::SetCode => |bed, request| {
@@ -252,6 +337,12 @@ fn archive_thunk(entry: Entry) -> Thunk {
             bed.number = lent!(nk_read_image, bed, request.bytes.as_ptr(), request.bytes.len());
         },
         Entry::Step => archive_step,
+        Entry::AskLecom => archive_ask!(asked_of_unit, nk_ask_lecom, lecom),
+        Entry::HearLecom => archive_hear!(asked_of_unit, nk_hear_lecom, lecom),
+        Entry::AskLove => archive_ask!(asked_of_unit, nk_ask_love, love),
+        Entry::HearLove => archive_hear!(asked_of_unit, nk_hear_love, love),
+        Entry::AskLucid => archive_ask!(asked_of_lucid, nk_ask_lucid, lucid),
+        Entry::HearLucid => archive_hear!(asked_of_lucid, nk_hear_lucid, lucid),
     }
 }
 
@@ -309,6 +400,12 @@ called! {
     second_write_image(card: &Card, image: &mut [u8]) -> Reply = reference::image::save;
     second_read_image(card: &mut Card, image: &[u8]) -> Number = reference::image::load;
     second_master(master: &mut Master, request: &MasterRequest, answer: Option<&[u8]>, frame: &mut [u8]) -> Reply = step;
+    second_ask_lecom(request: &lecom::Request, frame: &mut [u8]) -> Reply = lecom::make;
+    second_hear_lecom(request: &lecom::Request, reply: &[u8]) -> Heard = lecom::hear;
+    second_ask_love(request: &love::Request, frame: &mut [u8]) -> Reply = love::make;
+    second_hear_love(request: &love::Request, reply: &[u8]) -> Heard = love::hear;
+    second_ask_lucid(request: &lucid::Request, frame: &mut [u8]) -> Reply = lucid::make;
+    second_hear_lucid(request: &lucid::Request, reply: &[u8]) -> Heard = lucid::hear;
 }
 
 /// The thunk of a dialect's entry in the second program.
@@ -337,6 +434,25 @@ macro_rules! second_receiver {
 macro_rules! second_quiet {
     ($name:ident) => {
         |bed: &mut Bed, _: &Request| bed.number = $name(&mut bed.card) as u8
+    };
+}
+
+/// The thunk of an entry in the second program that makes a frame.
+macro_rules! second_ask {
+    ($name:ident, $dialect:ident) => {
+        |bed: &mut Bed, request: &Request| {
+            let reply = $name(&request.questions.$dialect.second, &mut bed.answer);
+            keep(bed, reply);
+        }
+    };
+}
+
+/// The thunk of an entry in the second program that reads a reply.
+macro_rules! second_hear {
+    ($name:ident, $dialect:ident) => {
+        |bed: &mut Bed, request: &Request| {
+            bed.second_heard = $name(&request.questions.$dialect.second, &request.bytes);
+        }
     };
 }
 
@@ -376,6 +492,12 @@ fn second_thunk(entry: Entry) -> Thunk {
             bed.number = second_read_image(&mut bed.card, &request.bytes) as u8;
         },
         Entry::Step => second_step,
+        Entry::AskLecom => second_ask!(second_ask_lecom, lecom),
+        Entry::HearLecom => second_hear!(second_hear_lecom, lecom),
+        Entry::AskLove => second_ask!(second_ask_love, love),
+        Entry::HearLove => second_hear!(second_hear_love, love),
+        Entry::AskLucid => second_ask!(second_ask_lucid, lucid),
+        Entry::HearLucid => second_hear!(second_hear_lucid, lucid),
     }
 }
 
@@ -394,12 +516,56 @@ fn keep(bed: &mut Bed, reply: Reply) {
     bed.len = reply.length;
 }
 
-/// What a call gives, from empty buffers: number, length, bytes taken, the whole answer buffer, degrees.
-fn given(side: Side, bed: &mut Bed, request: &Request) -> (u8, usize, usize, Vec<u8>, f32) {
-    (bed.len, bed.taken, bed.degrees) = (0, 0, 0.0);
+/// What a call gives; bytes are the whole answer buffer.
+#[derive(PartialEq, Debug)]
+struct Given {
+    number: u8,
+    len: usize,
+    taken: usize,
+    bytes: Vec<u8>,
+    degrees: f32,
+    said: u8,
+    values: Vec<i32>,
+}
+
+/// What a call gives, from empty buffers.
+fn given(side: Side, bed: &mut Bed, request: &Request) -> Given {
+    (bed.number, bed.len, bed.taken, bed.degrees) = (0, 0, 0, 0.0);
+    (bed.heard, bed.second_heard) = (UNHEARD, SECOND_UNHEARD);
     bed.answer.fill(0);
     thunk(side, request.entry)(bed, request);
-    (bed.number, bed.len, bed.taken, bed.answer.clone(), bed.degrees)
+    let (number, said, values) = match side {
+        Side::Archive => said(&bed.heard),
+        _ => second_said(&bed.second_heard),
+    };
+    Given {
+        // Those that hear give it with what was heard.
+        number: bed.number.max(number),
+        len: bed.len,
+        taken: bed.taken,
+        bytes: bed.answer.clone(),
+        degrees: bed.degrees,
+        said,
+        values,
+    }
+}
+
+/// Number, case and values of what the library heard.
+fn said(heard: &archive::Heard) -> (u8, u8, Vec<i32>) {
+    (heard.number, heard.said, heard.values[..heard.count].to_vec())
+}
+
+/// The same of what the second program heard.
+fn second_said(heard: &Heard) -> (u8, u8, Vec<i32>) {
+    let (said, values) = match heard {
+        Heard::Value(value) => (archive::HEARD_VALUE, vec![*value]),
+        Heard::Values(values) => (archive::HEARD_VALUE, values.as_slice().to_vec()),
+        Heard::Done => (archive::HEARD_DONE, Vec::new()),
+        Heard::Fault => (archive::HEARD_FAULT, Vec::new()),
+        Heard::Refused(code) => (archive::HEARD_REFUSED, code.iter().map(|&code| code.into()).collect()),
+        Heard::Nothing(_) => (archive::HEARD_NOTHING, Vec::new()),
+    };
+    (heard.number() as u8, said, values)
 }
 
 /// Makes a call on both sides of a bed and panics unless they agree in all they give and in their tables.

@@ -6,6 +6,8 @@ use std::path::Path;
 use std::process::Command;
 use std::time::{Duration, Instant};
 
+use reference::masters::{lecom, love, lucid};
+
 use crate::archive::BYTES;
 use crate::calls::{Entry, Request};
 use crate::groups::{Plan, Start};
@@ -67,13 +69,15 @@ fn long_script(plan: &Plan) -> Vec<String> {
         .collect()
 }
 
-/// A call as the console takes it; where an exchange begins, the master's request first.
+/// A call as the console takes it. Where an exchange begins, the line master's request comes first; before a reply to
+/// another master comes what it was asked.
 fn lines(request: &Request) -> Vec<String> {
     let Request {
         channel,
         code,
         bytes,
         ask,
+        questions,
         ..
     } = request;
     let line = match request.entry {
@@ -95,16 +99,80 @@ fn lines(request: &Request) -> Vec<String> {
         Entry::WriteImage => format!("save {ROOM}"),
         Entry::ReadImage => format!("load{}", figures(bytes)),
         Entry::Step => format!("step {ROOM}{}", figures(ask.answer)),
+        Entry::AskLecom => ask_lecom(&questions.lecom.second),
+        Entry::AskLove => ask_love(&questions.love.second),
+        Entry::AskLucid => ask_lucid(&questions.lucid.second),
+        Entry::HearLecom => format!("reply lecom{}", figures(bytes)),
+        Entry::HearLove => format!("reply love{}", figures(bytes)),
+        Entry::HearLucid => format!("reply lucid{}", figures(bytes)),
     };
-    if request.entry != Entry::Step || !ask.begins {
-        return vec![line];
-    }
-    let (ia, address, sent) = (ask.ia, ask.address, figures(bytes));
-    let asked = match ask.kind {
-        BYTES => format!("request change {ia} {address}{sent}"),
-        _ => format!("request bits {ia} {address}{sent} /{}", figures(ask.states)),
+    let asked = match request.entry {
+        Entry::Step if ask.begins => {
+            let (ia, address, sent) = (ask.ia, ask.address, figures(bytes));
+            match ask.kind {
+                BYTES => format!("request change {ia} {address}{sent}"),
+                _ => format!("request bits {ia} {address}{sent} /{}", figures(ask.states)),
+            }
+        }
+        Entry::HearLecom => ask_lecom(&questions.lecom.second),
+        Entry::HearLove => ask_love(&questions.love.second),
+        Entry::HearLucid => ask_lucid(&questions.lucid.second),
+        _ => return vec![line],
     };
     vec![asked, line]
+}
+
+fn ask_lecom(request: &lecom::Request) -> String {
+    let lecom::Request { address, code, order } = request;
+    let front = format!("ask lecom {ROOM} {address}");
+    match order {
+        lecom::Order::Read => format!("{front} read {code}"),
+        lecom::Order::Write(value) => format!("{front} write {code} {value}"),
+    }
+}
+
+fn ask_love(request: &love::Request) -> String {
+    let love::Request { address, order } = request;
+    let front = format!("ask love {ROOM} {address}");
+    match order {
+        love::Order::Status => format!("{front} status"),
+        love::Order::Read { place } => format!("{front} read {place}"),
+        love::Order::Write { place, value } => format!("{front} write {place} {value}"),
+    }
+}
+
+fn ask_lucid(request: &lucid::Request) -> String {
+    use lucid::Request::{GetIo, GetIoGroup, GetParam, Reset, SetIo, SetIoGroup, SetParam};
+    let rest = match request {
+        GetIo { channel, value_type } => format!("getio {channel} {value_type}"),
+        GetIoGroup { mask, value_type } => format!("getiogroup {mask} {value_type}"),
+        SetIo {
+            channel,
+            value_type,
+            value,
+        } => format!("setio {channel} {value_type} {value}"),
+        SetIoGroup {
+            mask,
+            value_type,
+            values,
+        } => {
+            let values: String = values.iter().map(|value| format!(" {value}")).collect();
+            format!("setiogroup {mask} {value_type}{values}")
+        }
+        GetParam {
+            channel,
+            option,
+            address,
+        } => format!("getparam {channel} {option} {address}"),
+        SetParam {
+            channel,
+            option,
+            address,
+            value,
+        } => format!("setparam {channel} {option} {address} {value}"),
+        Reset { channel, option } => format!("reset {channel} {option}"),
+    };
+    format!("ask lucid {ROOM} {rest}")
 }
 
 /// Bytes of two figures, each after a space.

@@ -1,4 +1,4 @@
-//! Frames of each dialect, by document 01, for a card with I.A. 3, LECOM address 11 and Love address 32h.
+//! Frames and replies of each dialect, by document 01, for a card with I.A. 3, LECOM address 11 and Love address 32h.
 
 /// Datalink command bits plus I.A.
 pub const INTERROGATE: u8 = 0xE3;
@@ -15,6 +15,8 @@ pub const STX: u8 = 0x02;
 pub const ETX: u8 = 0x03;
 pub const EOT: u8 = 0x04;
 pub const ENQ: u8 = 0x05;
+pub const ACK: u8 = 0x06;
+pub const NAK: u8 = 0x15;
 
 fn sum(bytes: &[u8]) -> u8 {
     bytes.iter().fold(0, |sum, &byte| sum.wrapping_add(byte))
@@ -47,9 +49,19 @@ pub fn lecom_read(unit: &str, code: &str) -> Vec<u8> {
 
 /// A LECOM write of data to a code.
 pub fn lecom_write(unit: &str, code: &str, data: &str) -> Vec<u8> {
+    [&[EOT], unit.as_bytes(), &lecom_data(code, data)].concat()
+}
+
+/// Code and data in LECOM with what stands around them, in a write and in the reply to a read.
+pub fn lecom_data(code: &str, data: &str) -> Vec<u8> {
     let checked = [code.as_bytes(), data.as_bytes(), &[ETX]].concat();
     let bcc = checked.iter().fold(0, |bcc, &character| bcc ^ character);
-    [&[EOT], unit.as_bytes(), &[STX], &checked, &[bcc]].concat()
+    [&[STX], &checked[..], &[bcc]].concat()
+}
+
+/// LECOM's reply to a read of an unknown code.
+pub fn lecom_unknown(code: &str) -> Vec<u8> {
+    [&[STX], code.as_bytes(), &[EOT]].concat()
 }
 
 /// A Love frame to a filter and address.
@@ -60,7 +72,24 @@ pub fn love(unit: &str, data: &str) -> Vec<u8> {
     [&[STX], filter.as_bytes(), &checked, checksum.as_bytes(), &[ETX]].concat()
 }
 
+/// A Love reply, whose checksum takes in the filter.
+pub fn love_reply(unit: &str, data: &str) -> Vec<u8> {
+    let checked = [unit.as_bytes(), data.as_bytes()].concat();
+    let checksum = format!("{:02X}", sum(&checked));
+    [&[STX], &checked[..], checksum.as_bytes(), &[ACK]].concat()
+}
+
+/// A Love error reply.
+pub fn love_error(unit: &str, code: &str) -> Vec<u8> {
+    [&[STX], unit.as_bytes(), b"N", code.as_bytes(), &[ACK]].concat()
+}
+
 /// A LucidControl frame.
 pub fn lucid(opc: u8, p1: u8, p2: u8, data: &[u8]) -> Vec<u8> {
     [&[opc, p1, p2, data.len() as u8], data].concat()
+}
+
+/// A LucidControl reply.
+pub fn lucid_reply(status: u8, data: &[u8]) -> Vec<u8> {
+    [&[status, data.len() as u8], data].concat()
 }

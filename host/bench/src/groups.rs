@@ -9,6 +9,8 @@ use crate::frames::{
     change, datalink, interrogate, lecom_read, lecom_write, love, lucid, ACKNOWLEDGE, CHANGE, CHANGE_BITS,
     FOREIGN_INTERROGATE, FOREIGN_RESPONSE, RESPONSE,
 };
+use crate::masters;
+use crate::questions::Questions;
 use crate::receivers::{self, Receiver};
 
 /// A call under a name.
@@ -94,6 +96,8 @@ pub struct Plan {
     pub receivers: Vec<Group>,
     /// Whole exchanges of the line master: change, acknowledge, interrogate, end.
     pub master: Group,
+    /// Requests and replies of the other dialects' masters.
+    pub masters: Vec<Group>,
     /// The entries without a dialect.
     pub others: Group,
     /// Refused just after fitness: the governor's channel is the cheapest test that comes next.
@@ -121,11 +125,17 @@ impl Plan {
             at_rest: receivers::at_rest(),
             receivers: receivers::rows(),
             master: exchanges("line master", &[2, 9, 32], &[1, 16]),
+            masters: masters::rows(),
             others: others(),
             fitness: channel_4("fitness"),
             fitness_pending: channel_4("fitness with a pending change").from(Start::Pending),
             unfit: channel_4("no words").from(Start::Wordless),
-            sweeps: sweeps().into_iter().chain(receivers::sweeps()).map(pending).collect(),
+            sweeps: sweeps()
+                .into_iter()
+                .chain(receivers::sweeps())
+                .map(pending)
+                .chain(masters::sweeps())
+                .collect(),
             long: receivers::long().into_iter().map(pending).collect(),
         }
     }
@@ -139,6 +149,7 @@ impl Plan {
             .iter()
             .chain(single)
             .chain(received)
+            .chain(&self.masters)
             .chain(&self.sweeps)
             .chain(&self.long)
             .collect()
@@ -176,6 +187,7 @@ pub fn case(name: impl Into<String>, entry: Entry, bytes: Vec<u8>) -> Case {
             code: 0,
             bytes,
             ask: Ask::new(BYTES, 0, 0, &[], &[]),
+            questions: Questions::none(),
         },
         point: None,
     }

@@ -6,6 +6,8 @@ mod calls;
 mod console;
 mod frames;
 mod groups;
+mod masters;
+mod questions;
 mod receivers;
 mod report;
 mod stack;

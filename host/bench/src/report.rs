@@ -83,6 +83,9 @@ pub fn calls_by_group(plan: &Plan, counted: &[Counted]) {
         print_mean(&case.name, 1, cost, true);
     }
     print_group(named(counted, &plan.master), true);
+    for group in &plan.masters {
+        print_group(named(counted, group), true);
+    }
     print_group(named(counted, &plan.mix), false);
     let mut interrogates = named(counted, &plan.dialects[0]).cases();
     let longest = interrogates.find(|(case, _)| case.name == LONGEST_INTERROGATE);
@@ -235,7 +238,7 @@ pub fn times(plan: &Plan) {
     for (group, has_aim) in [(&plan.master, true), (&plan.mix, false), (&plan.fitness, false)] {
         print_time(&group.name, &ratio(group, &group.cases), has_aim);
     }
-    for group in &plan.receivers {
+    for group in plan.masters.iter().chain(&plan.receivers) {
         print_time(&group.name, &ratio(group, &group.cases), true);
     }
 }

@@ -6,6 +6,7 @@ use std::collections::HashMap;
 use crate::archive::NEW;
 use crate::calls::{Bed, Entry, Request};
 use crate::groups::Plan;
+use crate::questions::{LucidQuestion, UnitQuestion};
 
 /// A return address, a pushed register.
 const WORD: usize = 8;
@@ -70,6 +71,9 @@ fn arguments(bed: &mut Bed, request: &Request) -> Vec<u64> {
     let answer = [&lent(&bed.answer)[..], &[&raw mut bed.len as u64]].concat();
     let bytes = lent(&request.bytes).to_vec();
     let channel = u64::from(request.channel);
+    let questions = &request.questions;
+    // C returns a struct of this size where a first argument points.
+    let heard = vec![&raw mut bed.heard as u64];
     match request.entry {
         Entry::SetCode => [tables, vec![channel, request.code.into()]].concat(),
         Entry::Restart => tables,
@@ -97,7 +101,35 @@ fn arguments(bed: &mut Bed, request: &Request) -> Vec<u64> {
             let rest = [lent(ask.states), lent(ask.answer)].concat();
             [asked, bytes, rest, answer].concat()
         }
+        Entry::AskLecom => [asked_of_unit(&questions.lecom), answer].concat(),
+        Entry::HearLecom => [heard, asked_of_unit(&questions.lecom), bytes].concat(),
+        Entry::AskLove => [asked_of_unit(&questions.love), answer].concat(),
+        Entry::HearLove => [heard, asked_of_unit(&questions.love), bytes].concat(),
+        Entry::AskLucid => [asked_of_lucid(&questions.lucid), answer].concat(),
+        Entry::HearLucid => [heard, asked_of_lucid(&questions.lucid), bytes].concat(),
     }
+}
+
+/// The request of LECOM's or Love's master.
+fn asked_of_unit<Second>(question: &UnitQuestion<Second>) -> Vec<u64> {
+    let value = question.value as u32;
+    vec![
+        question.address.into(),
+        question.task.into(),
+        question.place.into(),
+        value.into(),
+    ]
+}
+
+/// The request of LucidControl's master.
+fn asked_of_lucid(question: &LucidQuestion) -> Vec<u64> {
+    let asked = [
+        question.command.into(),
+        question.p1.into(),
+        question.p2.into(),
+        question.address.into(),
+    ];
+    [&asked[..], &lent(&question.values)].concat()
 }
 
 /// The most bytes that a call of the plan touched, for each entry.

@@ -1,9 +1,9 @@
 //! The console's calls, and which of them a program lists in its `help` line.
 
 /// First words of all calls (docs/CONSOLE.md, "Calls").
-pub const CALLS: [&str; 16] = [
+pub const CALLS: [&str; 18] = [
     "probe", "restart", "governor", "datalink", "lecom", "love", "lucid", "receive", "quiet", "save", "load",
-    "request", "step", "poke", "peek", "help",
+    "request", "step", "ask", "reply", "poke", "peek", "help",
 ];
 
 /// What stands before the list in a `help` line.

@@ -206,7 +206,7 @@ impl Watch {
         }
         match call {
             b"peek" if rest == [b"memory"] => return self.see_memory(&answer),
-            b"peek" | b"governor" | b"save" | b"receive" | b"quiet" | b"help" => {}
+            b"peek" | b"governor" | b"save" | b"receive" | b"quiet" | b"ask" | b"reply" | b"help" => {}
             b"request" => {
                 let asked = Asked::read(rest);
                 let old = self.memory.clone();

@@ -1,5 +1,6 @@
 //! The entries and the numbers that documents 01 and 02 let each of them return.
 
+use crate::masters::Master;
 use crate::receivers::Receiver;
 use crate::text::words;
 
@@ -27,11 +28,15 @@ pub enum Entry {
     Save,
     Load,
     Step,
+    /// A master makes a request.
+    Ask(Master),
+    /// A master reads a reply.
+    Reply(Master),
 }
 
 impl Entry {
     /// All entries, in the order of `help`.
-    pub const ALL: [Self; 18] = [
+    pub const ALL: [Self; 24] = [
         Self::Probe,
         Self::Restart,
         Self::Governor,
@@ -50,6 +55,12 @@ impl Entry {
         Self::Save,
         Self::Load,
         Self::Step,
+        Self::Ask(Master::Lecom),
+        Self::Ask(Master::Love),
+        Self::Ask(Master::Lucid),
+        Self::Reply(Master::Lecom),
+        Self::Reply(Master::Love),
+        Self::Reply(Master::Lucid),
     ];
 
     /// The entry's place among all.
@@ -73,21 +84,24 @@ impl Entry {
             Self::Save => "save",
             Self::Load => "load",
             Self::Step => "step",
+            Self::Ask(_) => "ask",
+            Self::Reply(_) => "reply",
         }
     }
 
-    /// The receiver that the call's second word names, if it names one.
-    fn receiver(self) -> Option<Receiver> {
+    /// The dialect that the call's second word names, if it names one.
+    fn dialect(self) -> Option<&'static str> {
         match self {
-            Self::Receive(receiver) | Self::Quiet(receiver) => Some(receiver),
+            Self::Receive(receiver) | Self::Quiet(receiver) => Some(receiver.word()),
+            Self::Ask(master) | Self::Reply(master) => Some(master.word()),
             _ => None,
         }
     }
 
     /// The call, and the dialect where there is an entry for each.
     pub fn name(self) -> String {
-        match self.receiver() {
-            Some(receiver) => format!("{} {}", self.call(), receiver.word()),
+        match self.dialect() {
+            Some(dialect) => format!("{} {dialect}", self.call()),
             None => self.call().to_owned(),
         }
     }
@@ -96,10 +110,10 @@ impl Entry {
     pub fn of_line(line: &[u8]) -> Option<Self> {
         let mut words = words(line);
         let call = words.next()?;
-        let receiver = words.next().and_then(Receiver::of_word);
+        let second = words.next();
         Self::ALL.into_iter().find(|entry| {
-            let own = entry.receiver();
-            entry.call().as_bytes() == call && (own.is_none() || own == receiver)
+            let dialect = entry.dialect().map(str::as_bytes);
+            entry.call().as_bytes() == call && (dialect.is_none() || dialect == second)
         })
     }
 
@@ -117,6 +131,8 @@ impl Entry {
             Self::Save => &[0, 11, UNFIT],
             Self::Load => &[1, UNFIT, 13, 14],
             Self::Step => &[0, 1, 7, 10, 11],
+            Self::Ask(_) => &[0, 7, 11],
+            Self::Reply(master) => master.reply_numbers(),
         }
     }
 
@@ -127,6 +143,7 @@ impl Entry {
             Self::Lucid => Some(("status", &["A0", "B0", "B2", "B4", "B6", "B8", "BA", "C0", "D0"])),
             Self::Receive(receiver) => Some(("way", receiver.ways())),
             Self::Step => Some(("says", &["open", "done", "unknown"])),
+            Self::Reply(master) => Some(("meaning", master.meanings())),
             _ => None,
         }
     }
@@ -144,6 +161,10 @@ mod tests {
         assert_eq!(Entry::of_line(b"receive love 32 02\n"), Some(Entry::Receive(love)));
         assert_eq!(Entry::of_line(b"quiet love\n"), Some(Entry::Quiet(love)));
         assert_eq!(Entry::of_line(b"receive nothing 32\n"), None);
+        let lucid = Master::Lucid;
+        assert_eq!(Entry::of_line(b"ask lucid 4 getio 0 16\n"), Some(Entry::Ask(lucid)));
+        assert_eq!(Entry::of_line(b"reply lucid\n"), Some(Entry::Reply(lucid)));
+        assert_eq!(Entry::of_line(b"reply datalink\n"), None);
         assert_eq!(Entry::of_line(b"peek love\n"), None);
     }
 

@@ -7,6 +7,7 @@ use crate::clauses::Watch;
 use crate::division;
 use crate::entries::Entry;
 use crate::program::{ask, run_both, End, Run};
+use crate::rounds;
 use crate::stillness::Stillness;
 use crate::tally::Tally;
 use crate::text::is_silent;
@@ -91,6 +92,7 @@ impl Judge {
         }
         let mut stillness = Stillness::default();
         let mut division = division::Watch::default();
+        let mut rounds = rounds::Watch::default();
         let mut ways = Ways::default();
         let mut watch = is_exchange.then(Watch::default);
         for (line, answer) in answers(script, &console.output) {
@@ -100,6 +102,7 @@ impl Judge {
             }
             let mut seen = stillness.see(script[line], answer);
             seen = seen.and_then(|()| division.see(script[line], answer));
+            seen = seen.and_then(|()| rounds.see(script[line], answer));
             if let Some(watch) = &mut watch {
                 seen = seen.and_then(|()| watch.see(script[line], answer));
             }

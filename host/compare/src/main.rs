@@ -2,6 +2,7 @@
 
 #![forbid(unsafe_code)]
 
+mod asked;
 mod calls;
 mod campaign;
 mod card;
@@ -13,6 +14,7 @@ mod frames;
 mod image;
 mod judge;
 mod master;
+mod masters;
 mod minimise;
 mod model;
 mod options;
@@ -20,6 +22,7 @@ mod program;
 mod receivers;
 mod report;
 mod rng;
+mod rounds;
 mod sections;
 mod stillness;
 mod streams;

@@ -25,7 +25,7 @@ impl Stillness {
         let mut called = words(line);
         match called.next() {
             Some(b"peek") => return self.see_table(line, answer),
-            None | Some(b"governor" | b"save" | b"request" | b"step" | b"help") => {}
+            None | Some(b"governor" | b"save" | b"request" | b"step" | b"ask" | b"reply" | b"help") => {}
             Some(_) if number(first).is_some_and(|number| number >= FIRST_REFUSAL) => {}
             Some(b"receive" | b"quiet") => {
                 let part = [b"peek", &b"part"[..], called.next().unwrap_or_default()];
@@ -71,6 +71,8 @@ mod tests {
         assert!(!may_change(b"probe 0\n", b"error expected probe CHANNEL CODE\n"));
         assert!(!may_change(b"step 38\n", b"0 open 7E\n"));
         assert!(!may_change(b"save 293\n", b"0 00\n"));
+        assert!(!may_change(b"ask lucid 4 getio 0 16\n", b"0 46 00 10 00\n"));
+        assert!(!may_change(b"reply lucid 00 00\n", b"1 done\n"));
         assert!(!may_change(b"receive love 32 02\n", b"1 1\n"));
         assert!(!may_change(b"quiet love\n", b"1\n"));
     }

@@ -5,6 +5,7 @@ use std::fmt;
 
 use crate::calls::Listed;
 use crate::entries::{Entry, NUMBERS, UNFIT};
+use crate::masters::meaning;
 use crate::text::{bytes_of, number, words};
 
 /// Bytes of a Love error reply.
@@ -96,7 +97,7 @@ fn mark_faults(entry: Entry, counts: &Counts, is_asked: bool) -> Vec<String> {
     missing.chain(strange).collect()
 }
 
-/// The mark in an answer of this number: Love's error code, LucidControl's status, what the master says.
+/// The mark in an answer of this number: Love's error code, LucidControl's status, what the master says, what a reply means.
 fn mark<'a>(entry: Entry, number: i64, mut words: impl Iterator<Item = &'a [u8]>) -> Option<String> {
     match entry {
         Entry::Love => {
@@ -110,6 +111,7 @@ fn mark<'a>(entry: Entry, number: i64, mut words: impl Iterator<Item = &'a [u8]>
             let word = words.next()?;
             Some(String::from_utf8_lossy(word).into_owned())
         }
+        Entry::Reply(_) => meaning(words),
         _ => None,
     }
 }
@@ -150,6 +152,7 @@ impl fmt::Display for Tally {
 #[cfg(test)]
 mod tests {
     use super::*;
+    use crate::masters::Master;
     use crate::receivers::Receiver;
 
     fn listed() -> Listed {
@@ -191,6 +194,25 @@ mod tests {
         assert!(tally.faults(&[entry], &listed).is_empty());
         tally.count(b"receive lucid 259\n", b"11\n");
         assert_eq!(tally.faults(&[], &listed), ["receive lucid gave 11, which it cannot"]);
+    }
+
+    #[test]
+    fn meanings_are_counted_for_each_master() {
+        let entry = Entry::Reply(Master::Lecom);
+        let listed = Listed::read("calls: reply lecom BYTES\n").unwrap();
+        let mut tally = Tally::default();
+        for answer in ["1 value 7\n", "1 refused\n", "3\n", "4\n", "7\n", "error no request\n"] {
+            tally.count(b"reply lecom 15\n", answer.as_bytes());
+        }
+        tally.count(b"reply love 06\n", b"1 done\n");
+        assert_eq!(tally.faults(&[entry], &listed), ["reply lecom never gave meaning done"]);
+        tally.count(b"reply lecom 06\n", b"1 done\n");
+        assert!(tally.faults(&[entry], &listed).is_empty());
+        tally.count(b"reply lecom 15\n", b"1 refused 5\n");
+        assert_eq!(
+            tally.faults(&[], &listed),
+            ["reply lecom gave meaning refused-5, which it cannot"]
+        );
     }
 
     #[test]

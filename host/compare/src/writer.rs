@@ -100,8 +100,8 @@ impl<'a> Writer<'a> {
         self.calls
     }
 
-    /// Writes a line without peeks.
-    pub fn last(&mut self, line: &[u8]) {
+    /// Writes any line without a line feed in it, readable or not, without peeks; it does not count.
+    pub fn bare(&mut self, line: &[u8]) {
         self.quiet(line);
     }
 
@@ -126,6 +126,13 @@ impl<'a> Writer<'a> {
         let answer = self.quiet(line)?;
         self.calls += 1;
         self.peek(touches_memory(line));
+        answer
+    }
+
+    /// Writes a call that only looks at what it is given, and so needs no peeks; else like [`Self::call`].
+    pub fn look(&mut self, line: &str) -> Option<String> {
+        let answer = self.quiet(line.as_bytes())?;
+        self.calls += 1;
         answer
     }
 

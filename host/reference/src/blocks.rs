@@ -51,6 +51,18 @@ pub fn exclusive_or(block: &[u8; 32]) -> u8 {
     block.iter().fold(0, |all, &byte| all ^ byte)
 }
 
+/// The last eight of at least four bytes, the very last in the word's highest byte; where there are fewer than eight,
+/// zeros come before them.
+#[inline(always)]
+pub fn last_eight(bytes: &[u8]) -> Option<u64> {
+    if let Some(&last) = bytes.last_chunk() {
+        return Some(u64::from_le_bytes(last));
+    }
+    let (first, last) = (*bytes.first_chunk()?, *bytes.last_chunk()?);
+    let lower = u64::from(u32::from_le_bytes(first)) << (8 * (8 - bytes.len()));
+    Some(u64::from(u32::from_le_bytes(last)) << 32 | lower)
+}
+
 /// The exclusive-or of a word's eight bytes.
 #[inline]
 pub fn exclusive_or_of_eight(word: u64) -> u8 {

@@ -22,6 +22,10 @@ pub const NUM_MOST: usize = 32;
 
 /// The probe code that means fault.
 pub const FAULT_CODE: u8 = 255;
+/// The temperature of code 0, in tenths.
+const LOWEST_TENTHS: i16 = -400;
+/// From the temperature of one code to that of the next, in tenths.
+const STEP_TENTHS: i16 = 5;
 /// The demand after a restart.
 pub const RESTART_DEMAND: u32 = 65_535;
 /// Smallest and largest demand.
@@ -114,6 +118,30 @@ pub struct Tenths(pub i16);
 #[derive(Clone, Copy, PartialEq, Eq, Debug)]
 pub struct Hundredths(pub i32);
 
+impl Tenths {
+    /// So many tenths, if a probe code gives them.
+    #[inline]
+    pub fn of_a_code(tenths: i32) -> Option<Self> {
+        is_of_a_code(tenths, 1).then_some(Self(tenths as i16))
+    }
+}
+
+impl Hundredths {
+    /// So many hundredths, if a probe code gives them.
+    #[inline]
+    pub fn of_a_code(hundredths: i32) -> Option<Self> {
+        is_of_a_code(hundredths, 10).then_some(Self(hundredths))
+    }
+}
+
+/// Whether a probe code gives a temperature, counted in units of which so many are a tenth of a degree.
+#[inline]
+fn is_of_a_code(temperature: i32, tenth: i32) -> bool {
+    let step = (i32::from(STEP_TENTHS) * tenth) as u32;
+    let above_lowest = temperature.wrapping_sub(i32::from(LOWEST_TENTHS) * tenth) as u32;
+    above_lowest < step * u32::from(FAULT_CODE) && above_lowest.is_multiple_of(step)
+}
+
 impl From<Tenths> for Hundredths {
     #[inline]
     fn from(tenths: Tenths) -> Self {
@@ -126,9 +154,9 @@ impl From<Tenths> for Hundredths {
 pub struct Addresses {
     /// Datalink I.A., 0 to 31.
     pub datalink: u32,
-    /// LECOM, 11 to 99 without a zero figure.
+    /// LECOM, by [`is_lecom_unit`].
     pub lecom: u32,
-    /// Love, 1 to 3FFh, low two hex figures not 00.
+    /// Love, by [`is_love_unit`].
     pub love: u32,
 }
 
@@ -136,10 +164,21 @@ impl Addresses {
     /// Whether each address is one the card may have.
     #[inline]
     pub fn is_fit(&self) -> bool {
-        let lecom = (11..=99).contains(&self.lecom) && !self.lecom.is_multiple_of(10);
-        let love = self.love <= 0x3FF && self.love & 0xFF != 0;
+        let (lecom, love) = (is_lecom_unit(self.lecom), is_love_unit(self.love));
         self.datalink <= 31 && lecom && love
     }
+}
+
+/// Whether a card can have this LECOM address: 11 to 99 without a zero figure.
+#[inline]
+pub fn is_lecom_unit(address: u32) -> bool {
+    (11..=99).contains(&address) && !address.is_multiple_of(10)
+}
+
+/// Whether a card can have this Love address: 1 to 3FFh, low two hex figures not 00.
+#[inline]
+pub fn is_love_unit(address: u32) -> bool {
+    address <= 0x3FF && address & 0xFF != 0
 }
 
 /// The Datalink change that was echoed and waits for its acknowledge.
@@ -329,7 +368,7 @@ impl Card {
     pub fn temperature(&self, channel: usize) -> Option<Tenths> {
         match self.memory[..CHANNELS][channel] {
             FAULT_CODE => None,
-            code => Some(Tenths(5 * i16::from(code) - 400)),
+            code => Some(Tenths(STEP_TENTHS * i16::from(code) + LOWEST_TENTHS)),
         }
     }
 }

@@ -1,17 +1,20 @@
 //! The console: one card and one line master, driven by lines (docs/CONSOLE.md).
 
+mod masters;
 mod receivers;
 mod tables;
 mod words;
 
 use std::io::{self, Read, Write};
 
+use self::masters::Asked;
 use self::receivers::receiver;
 use self::tables::split_table;
 use self::words::{append_bytes, end, room, split_slash, split_word, unsigned, Unreadable, ROOM_MOST};
 use crate::card::{self, Card, Governor};
 use crate::figures::{decimal, hex_figures, DECIMAL_MOST};
 use crate::master::{self, Master, Order, Request, Says};
+use crate::masters::Heard;
 use crate::numbers::{Number, Reply};
 use crate::{datalink, image, lecom, love, lucid};
 
@@ -104,6 +107,29 @@ const CALLS: &[Call] = &[
         run: Console::step,
     },
     Call {
+        name: "ask",
+        usages: &[
+            "ask lecom ROOM ADDRESS read CODE",
+            "ask lecom ROOM ADDRESS write CODE VALUE",
+            "ask love ROOM ADDRESS status",
+            "ask love ROOM ADDRESS read PLACE",
+            "ask love ROOM ADDRESS write PLACE VALUE",
+            "ask lucid ROOM getio CHANNEL TYPE",
+            "ask lucid ROOM getiogroup MASK TYPE",
+            "ask lucid ROOM setio CHANNEL TYPE VALUE",
+            "ask lucid ROOM setiogroup MASK TYPE VALUES",
+            "ask lucid ROOM getparam CHANNEL OPTION ADDRESS",
+            "ask lucid ROOM setparam CHANNEL OPTION ADDRESS VALUE",
+            "ask lucid ROOM reset CHANNEL OPTION",
+        ],
+        run: Console::ask,
+    },
+    Call {
+        name: "reply",
+        usages: &["reply lecom BYTES", "reply love BYTES", "reply lucid BYTES"],
+        run: Console::reply,
+    },
+    Call {
         name: "poke",
         usages: &["poke TABLE PLACE VALUE"],
         run: Console::poke,
@@ -124,7 +150,7 @@ const CALLS: &[Call] = &[
 enum Error {
     /// The words do not fit the call's usage.
     Expected,
-    /// A step before the first request.
+    /// A step or a reply before the first request.
     NoRequest,
 }
 
@@ -164,11 +190,12 @@ impl KeptRequest {
     }
 }
 
-/// The card, the master and the buffers lent to their entries.
+/// The card, the masters' states and requests, and the buffers lent to their entries.
 pub struct Console {
     card: Card,
     master: Master,
     request: Option<KeptRequest>,
+    asked: Asked,
     /// The bytes of the present line.
     bytes: Vec<u8>,
     room: [u8; ROOM_MOST],
@@ -221,6 +248,7 @@ impl Console {
             card: Card::new(),
             master: Master::new(),
             request: None,
+            asked: Asked::default(),
             bytes: Vec::new(),
             room: [0; ROOM_MOST],
         }
@@ -384,6 +412,22 @@ impl Console {
         Ok(())
     }
 
+    fn ask(&mut self, words: &[u8], out: &mut Vec<u8>) -> Result<(), Error> {
+        let reply = self.asked.ask(words, &mut self.room)?;
+        write_number(out, reply.number);
+        write_bytes(out, &self.room[..reply.length]);
+        Ok(())
+    }
+
+    fn reply(&mut self, words: &[u8], out: &mut Vec<u8>) -> Result<(), Error> {
+        let (dialect, words) = split_word(words);
+        self.take_bytes(words)?;
+        let heard = self.asked.hear(dialect, &self.bytes)?;
+        write_number(out, heard.number());
+        write_heard(out, &heard);
+        Ok(())
+    }
+
     fn poke(&mut self, words: &[u8], out: &mut Vec<u8>) -> Result<(), Error> {
         let (table, words) = split_table(words)?;
         let (place, words) = split_word(words);
@@ -438,6 +482,24 @@ fn write_entries<T: Copy + Into<i64>>(out: &mut Vec<u8>, entries: &[T]) {
 /// Writes a number in decimal.
 fn write_number(out: &mut Vec<u8>, number: Number) {
     write_entries(out, &[number as u8]);
+}
+
+/// Writes what a master heard, if it heard anything.
+fn write_heard(out: &mut Vec<u8>, heard: &Heard) {
+    let (word, values): (&[u8], &[i32]) = match heard {
+        Heard::Value(value) => (b" value", &[*value]),
+        Heard::Values(values) => (b" value", values.as_slice()),
+        Heard::Done => (b" done", &[]),
+        Heard::Fault => (b" fault", &[]),
+        Heard::Refused(None) => (b" refused", &[]),
+        Heard::Refused(Some(code)) => (b" refused", &[(*code).into()]),
+        Heard::Nothing(_) => (b"", &[]),
+    };
+    out.extend_from_slice(word);
+    for &value in values {
+        out.push(b' ');
+        write_entries(out, &[value]);
+    }
 }
 
 /// Writes bytes as two upper-case figures, each after one space.

@@ -123,6 +123,21 @@ pub fn shortest_decimal(value: i32) -> (u64, u32) {
     }
 }
 
+/// The value whose shortest decimal these characters are, at most eight of them; none if it is that of no value. They
+/// stand as [`shortest_decimal`] gives them.
+#[inline(always)]
+pub fn value_of_shortest(text: u64, count: u32) -> Option<i32> {
+    let is_negative = text as u8 == b'-';
+    let text = if is_negative { text >> 8 } else { text };
+    let figures = count - u32::from(is_negative);
+    // A zero comes first only where it is all there is.
+    if figures == 0 || text as u8 == b'0' && count > 1 {
+        return None;
+    }
+    let value = value_of_eight((text ^ EIGHT_ZEROS) << (8 * (8 - figures)))? as i32;
+    Some(if is_negative { -value } else { value })
+}
+
 /// The value of four decimal figures; none if one is no figure.
 #[inline]
 pub fn value_of_four(characters: [u8; 4]) -> Option<i32> {
@@ -132,6 +147,14 @@ pub fn value_of_four(characters: [u8; 4]) -> Option<i32> {
     }
     let pairs = (figures * 10 + (figures >> 8)) & 0x00FF_00FF;
     Some(((pairs & 0xFF) * 100 + (pairs >> 16)) as i32)
+}
+
+/// The two decimal figures of a value below a hundred.
+#[inline]
+pub fn two_figures(value: u32) -> [u8; 2] {
+    let tens = (value * 103) >> 10;
+    let figures = tens | (value - tens * 10) << 8;
+    (figures as u16 | EIGHT_ZEROS as u16).to_le_bytes()
 }
 
 /// The four decimal figures of a value below ten thousand.

@@ -14,8 +14,8 @@ pub(crate) const STX: u8 = 0x02;
 pub(crate) const ETX: u8 = 0x03;
 pub(crate) const EOT: u8 = 0x04;
 pub(crate) const ENQ: u8 = 0x05;
-const ACK: u8 = 0x06;
-const NAK: u8 = 0x15;
+pub(crate) const ACK: u8 = 0x06;
+pub(crate) const NAK: u8 = 0x15;
 
 /// EOT and two address figures.
 const HEAD: usize = 3;
@@ -23,17 +23,17 @@ const HEAD: usize = 3;
 const DATA_MOST: usize = 12;
 const EXTENDED_MARK: u8 = b'!';
 
-const LAST_REGISTER: u8 = REGISTERS as u8 - 1;
-const FIRST_PROBE: u8 = 0x60;
-const LAST_PROBE: u8 = FIRST_PROBE + CHANNELS as u8 - 1;
-const ACTIVATE: u8 = 0x67;
-const STORE: u8 = 0x68;
+pub(crate) const LAST_REGISTER: u8 = REGISTERS as u8 - 1;
+pub(crate) const FIRST_PROBE: u8 = 0x60;
+pub(crate) const LAST_PROBE: u8 = FIRST_PROBE + CHANNELS as u8 - 1;
+pub(crate) const ACTIVATE: u8 = 0x67;
+pub(crate) const STORE: u8 = 0x68;
 /// What an extended code reaches that begins with anything but "!00" or has a subcode: nothing, as every code above STORE.
 const NOWHERE: u8 = 0xFF;
 
 /// The characters of a code.
 #[derive(Clone, Copy)]
-enum Code<'a> {
+pub(crate) enum Code<'a> {
     /// Two figures.
     Standard(&'a [u8; 2]),
     /// "!", four code figures, two of subcode.
@@ -155,7 +155,7 @@ impl Line<'_> {
 
 /// Parts a code from what follows it: its characters, what it reaches, the rest; none if its layout is wrong.
 #[inline(always)]
-fn split_code(bytes: &[u8]) -> Option<(Code<'_>, u8, &[u8])> {
+pub(crate) fn split_code(bytes: &[u8]) -> Option<(Code<'_>, u8, &[u8])> {
     if bytes[0] == EXTENDED_MARK {
         let (code, rest) = bytes.split_first_chunk()?;
         let reached = match *code {

@@ -16,6 +16,7 @@ pub mod lecom;
 pub mod love;
 pub mod lucid;
 pub mod master;
+pub mod masters;
 mod message;
 pub mod numbers;
 pub mod receivers;

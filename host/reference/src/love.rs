@@ -14,17 +14,28 @@ pub const FILTER: &[u8; 4] = b"LOVE";
 
 pub(crate) const STX: u8 = 0x02;
 pub(crate) const ETX: u8 = 0x03;
-const ACK: u8 = 0x06;
-const ERROR_MARK: u8 = b'N';
+pub(crate) const ACK: u8 = 0x06;
+pub(crate) const ERROR_MARK: u8 = b'N';
 /// STX, filter and two address figures.
-const HEAD: usize = 4;
+pub(crate) const HEAD: usize = 4;
 /// Two checksum figures and ETX, or ACK in a reply.
-const TAIL: usize = 3;
+pub(crate) const TAIL: usize = 3;
 const DATA_MOST: usize = 10;
-const PROCESS_VALUE: &[u8] = b"00";
+pub(crate) const PROCESS_VALUE: &[u8; 2] = b"00";
 /// What a read and a write begin with, before the parameter's last figure.
-const READ: [u8; 3] = *b"010";
-const WRITE: [u8; 3] = *b"020";
+pub(crate) const READ: [u8; 3] = *b"010";
+pub(crate) const WRITE: [u8; 3] = *b"020";
+/// The parameters' last figures.
+const SP1: u8 = b'0';
+const SP2: u8 = b'2';
+const ALLO: u8 = b'4';
+const ALHI: u8 = b'5';
+/// The parameters' last figures by their places.
+pub(crate) const PARAMETERS: [u8; 4] = [SP1, SP2, ALLO, ALHI];
+/// The answer to a write.
+pub(crate) const WRITTEN: [u8; 2] = *b"00";
+/// The answer of probe 0 at fault.
+pub(crate) const FAULT: [u8; 8] = *b"D0000000";
 
 /// A refusal's number and error code.
 type Refusal = (Number, [u8; 2]);
@@ -35,6 +46,14 @@ const ILLEGAL_CHARACTER: Refusal = (Number::Form, *b"04");
 const DATA_FIELD_ERROR: Refusal = (Number::Form, *b"05");
 const IMPROPER_VALUE: Refusal = (Number::Outside, *b"05");
 const VALUE_OUTSIDE: Refusal = (Number::Outside, *b"06");
+/// The error code of each refusal.
+pub(crate) const ERROR_CODES: [[u8; 2]; 5] = [
+    UNDEFINED_COMMAND.1,
+    CHECKSUM_ERROR.1,
+    ILLEGAL_CHARACTER.1,
+    DATA_FIELD_ERROR.1,
+    VALUE_OUTSIDE.1,
+];
 
 /// Entry: a Love frame.
 pub fn love(card: &mut Card, frame: &[u8], answer: &mut [u8]) -> Reply {
@@ -69,7 +88,7 @@ pub fn love(card: &mut Card, frame: &[u8], answer: &mut [u8]) -> Reply {
 
 /// STX, filter and address figures of the card.
 #[inline(always)]
-fn head(address: u32) -> [u8; HEAD] {
+pub(crate) fn head(address: u32) -> [u8; HEAD] {
     let [low, hundreds, ..] = address.to_le_bytes();
     let [first, second] = hex_figures(low);
     [STX, FILTER[usize::from(hundreds & 3)], first, second]
@@ -113,7 +132,7 @@ fn exchange(card: &mut Card, head: [u8; HEAD], data: &[u8], answer: &mut [u8; AN
             // The parameter is asked for first: an unknown one is refused whatever the value.
             let place = parameter(last)?;
             card.love[place] = written_value([a, b, c, d], [e, f])?;
-            Ok(send(head, *b"00", answer))
+            Ok(send(head, WRITTEN, answer))
         }
         _ => Err(refusal(data)),
     }
@@ -125,19 +144,19 @@ fn refusal(data: &[u8]) -> Refusal {
     match *data {
         _ if data.len() > DATA_MOST => DATA_FIELD_ERROR,
         [b'0', b'0', ..] => DATA_FIELD_ERROR,
-        [b'0', b'1' | b'2', b'0', b'0' | b'2' | b'4' | b'5', ..] => DATA_FIELD_ERROR,
+        [b'0', b'1' | b'2', b'0', SP1 | SP2 | ALLO | ALHI, ..] => DATA_FIELD_ERROR,
         _ => UNDEFINED_COMMAND,
     }
 }
 
-/// The place of the parameter that a read or write names by its last figure: 00 SP1, 02 SP2, 04 ALLO, 05 ALHI.
+/// The place of the parameter that a read or write names by its last figure.
 #[inline(always)]
 fn parameter(figure: u8) -> Result<usize, Refusal> {
     match figure {
-        b'0' => Ok(0),
-        b'2' => Ok(1),
-        b'4' => Ok(2),
-        b'5' => Ok(3),
+        SP1 => Ok(0),
+        SP2 => Ok(1),
+        ALLO => Ok(2),
+        ALHI => Ok(3),
         _ => Err(UNDEFINED_COMMAND),
     }
 }
@@ -146,7 +165,7 @@ fn parameter(figure: u8) -> Result<usize, Refusal> {
 #[inline(always)]
 fn process_value(card: &Card) -> [u8; 8] {
     let Some(Tenths(tenths)) = card.temperature(0) else {
-        return *b"D0000000";
+        return FAULT;
     };
     let sign = if tenths < 0 { b'2' } else { b'0' };
     let [a, b, c, d] = four_figures(u32::from(tenths.unsigned_abs()));
@@ -176,12 +195,16 @@ fn written_value(figures: [u8; 4], sign: [u8; 2]) -> Result<i32, Refusal> {
     Ok(value)
 }
 
-/// Sends data between head and checksum; the card's checksum takes in its filter.
+/// The card's checksum of its head and data, which takes in its filter.
+#[inline(always)]
+pub(crate) fn card_checksum<const N: usize>(&[_, filter, high, low]: &[u8; HEAD], data: &[u8; N]) -> u8 {
+    sum_of(&[filter, high, low]).wrapping_add(sum_of(data))
+}
+
+/// Sends data between head and checksum.
 #[inline(always)]
 fn send<const N: usize>(head: [u8; HEAD], data: [u8; N], answer: &mut [u8; ANSWER_ROOM]) -> Reply {
-    let [_, filter, high, low] = head;
-    let checksum = sum_of(&[filter, high, low]).wrapping_add(sum_of(&data));
-    let [high, low] = hex_figures(checksum);
+    let [high, low] = hex_figures(card_checksum(&head, &data));
     answer[..HEAD].copy_from_slice(&head);
     answer[HEAD..HEAD + N].copy_from_slice(&data);
     answer[HEAD + N..HEAD + N + TAIL].copy_from_slice(&[high, low, ACK]);

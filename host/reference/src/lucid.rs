@@ -8,27 +8,27 @@ pub const SHORTEST: usize = 4;
 /// Longest frame.
 pub const LONGEST: usize = 259;
 
-const GET_IO: u8 = 0x46;
-const GET_IO_GROUP: u8 = 0x48;
-const SET_IO: u8 = 0x40;
-const SET_IO_GROUP: u8 = 0x42;
-const SET_PARAM: u8 = 0xA0;
-const GET_PARAM: u8 = 0xA2;
+pub(crate) const GET_IO: u8 = 0x46;
+pub(crate) const GET_IO_GROUP: u8 = 0x48;
+pub(crate) const SET_IO: u8 = 0x40;
+pub(crate) const SET_IO_GROUP: u8 = 0x42;
+pub(crate) const SET_PARAM: u8 = 0xA0;
+pub(crate) const GET_PARAM: u8 = 0xA2;
 
-const TYPE_DEMAND: u8 = 0x10;
-const TYPE_TENTHS: u8 = 0x40;
-const TYPE_HUNDREDTHS: u8 = 0x41;
-const DEMAND_SIZE: usize = 2;
+pub(crate) const TYPE_DEMAND: u8 = 0x10;
+pub(crate) const TYPE_TENTHS: u8 = 0x40;
+pub(crate) const TYPE_HUNDREDTHS: u8 = 0x41;
+pub(crate) const DEMAND_SIZE: usize = 2;
 
-const OPTION_DEFAULT: u8 = 0x01;
-const OPTION_PERSISTENT: u8 = 0x80;
-const MASK_MOST: u8 = 0x0F;
+pub(crate) const OPTION_DEFAULT: u8 = 0x01;
+pub(crate) const OPTION_PERSISTENT: u8 = 0x80;
+pub(crate) const MASK_MOST: u8 = 0x0F;
 /// Addresses of a channel's two parameters, in their tables' order.
-const PARAMETER_ADDRESSES: [u16; CHANNEL_PARAMETERS] = [0x1110, 0x1120];
+pub(crate) const PARAMETER_ADDRESSES: [u16; CHANNEL_PARAMETERS] = [0x1110, 0x1120];
 
-const OK: u8 = 0x00;
+pub(crate) const OK: u8 = 0x00;
 /// Status and LEN.
-const HEAD: usize = 2;
+pub(crate) const HEAD: usize = 2;
 
 /// A refusal's number and status.
 type Refusal = (Number, u8);
@@ -43,6 +43,19 @@ const INV_OPTION: Refusal = (Number::Outside, 0xB4);
 const INV_PARAM: Refusal = (Number::Unknown, 0xBA);
 const INV_DATA: Refusal = (Number::Outside, 0xC0);
 const ERR_EXECUTION: Refusal = (Number::Fault, 0xD0);
+/// The status of a fault.
+pub(crate) const FAULT: u8 = ERR_EXECUTION.1;
+/// The status of each other refusal.
+pub(crate) const REFUSALS: [u8; 8] = [
+    INV_LENGTH.1,
+    NO_SUPPORT.1,
+    INV_CHANNEL.1,
+    INV_MASK.1,
+    INV_TYPE.1,
+    INV_OPTION.1,
+    INV_PARAM.1,
+    INV_DATA.1,
+];
 
 /// Entry: a LucidControl frame.
 pub fn lucid(card: &mut Card, frame: &[u8], answer: &mut [u8]) -> Reply {

@@ -1,6 +1,5 @@
 -- `console::main` meets its contract. Assumes nothing.
 use mathlib.Core.Path.{refl}
-use mathlib.Core.Logic.{inr}
 use Rattle.console.specs.Held.{Held}
 use Rattle.console.specs.Standing.{Standing}
 use borrow.Author.Needs.{needs}
@@ -26,20 +25,17 @@ slice-aggregate-start-memory c = search needs
 start-memory-requires : tie.Need-start-memory-requires Inv-loop μ-loop
 start-memory-requires c κs = refl
 
-none-requires : tie.Need-none-requires Inv-loop μ-loop
-none-requires c κs = tt
-
-none-requires-2 : tie.Need-none-requires-2 Inv-loop μ-loop
-none-requires-2 c κs = tt
+start-requires : tie.Need-start-requires Inv-loop μ-loop
+start-requires c κs = tt
 
 loop-holds : tie.Need-loop-holds Inv-loop μ-loop
-loop-holds c = (record { before = search needs; inside = search needs; room = search needs; told = inr refl }, search needs)
+loop-holds c = c .start .ensures
 
 go-on-requires : tie.Need-go-on-requires Inv-loop μ-loop
 go-on-requires c κs = search needs
 
 left-requires : tie.Need-left-requires Inv-loop μ-loop
-left-requires c κs = search needs
+left-requires c κs = c .before .before .before .before .before .before .before .before .before .before .before .before .loop-test .taken
 
 loop-less : tie.Need-loop-less Inv-loop μ-loop
 loop-less c = search needs
@@ -63,8 +59,7 @@ main-spec =
     start-words-requires
     slice-aggregate-start-memory
     start-memory-requires
-    none-requires
-    none-requires-2
+    start-requires
     loop-holds
     go-on-requires
     left-requires

@@ -23,7 +23,7 @@ pub const STORE: u8 = 0x68;
 /// The last register code; the first is 00h.
 const LAST_REGISTER: i64 = 0x5F;
 /// The first probe's code.
-const FIRST_PROBE: u8 = 0x60;
+pub const FIRST_PROBE: u8 = 0x60;
 /// The last probe's code.
 const LAST_PROBE: u8 = 0x63;
 /// Codes on both sides of each limit.

@@ -6,15 +6,15 @@ use crate::rng::Rng;
 use crate::writer::Addresses;
 
 /// Begins every frame.
-const STX: u8 = 0x02;
+pub const STX: u8 = 0x02;
 /// Ends every request.
-const ETX: u8 = 0x03;
+pub const ETX: u8 = 0x03;
 /// Filter characters by the address's hundreds in hex.
-const FILTER: &[u8; 4] = b"LOVE";
+pub const FILTER: &[u8; 4] = b"LOVE";
 /// STX and the filter, before the characters that the checksum adds.
 const HEAD: usize = 2;
-/// Two checksum figures and ETX.
-const TAIL: usize = 3;
+/// Two checksum figures and ETX, or ACK in a reply.
+pub const TAIL: usize = 3;
 /// The low halves of the commands that read (01) and write (02) a parameter.
 pub const PARAMETERS: [&str; 4] = ["00", "02", "04", "05"];
 /// Figures and sign of a write, right and wrong.

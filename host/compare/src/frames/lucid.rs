@@ -37,7 +37,7 @@ const LEN: usize = 3;
 /// Bytes before the data.
 pub const HEAD: usize = 4;
 /// The masks of channels: 1 to 0Fh.
-const MASK_MOST: usize = 0x0F;
+pub const MASK_MOST: usize = 0x0F;
 /// P1 as channel or mask on both sides of each limit.
 const TELLING_P1: [u8; 10] = [0, 1, 2, 3, 4, 0x0E, 0x0F, 0x10, 0x80, 0xFF];
 /// Types and options, known and unknown.

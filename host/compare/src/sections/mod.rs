@@ -9,12 +9,14 @@ mod lecom;
 mod lengths;
 mod love;
 mod lucid;
+mod masters;
 mod receivers;
 mod tables;
 mod unreadable;
 
 use crate::calls::Listed;
 use crate::entries::Entry;
+use crate::masters::Master;
 use crate::receivers::Receiver;
 use crate::rng::Rng;
 use crate::writer::{Line, Writer};
@@ -88,8 +90,18 @@ const RECEIVER_ENTRIES: [Entry; 8] = [
     Entry::Quiet(Receiver::Lucid),
 ];
 
+/// The entries of all masters but Datalink's.
+const MASTER_ENTRIES: [Entry; 6] = [
+    Entry::Ask(Master::Lecom),
+    Entry::Ask(Master::Love),
+    Entry::Ask(Master::Lucid),
+    Entry::Reply(Master::Lecom),
+    Entry::Reply(Master::Love),
+    Entry::Reply(Master::Lucid),
+];
+
 /// All sections, in the order of their turns.
-pub const SECTIONS: [Section; 11] = [
+pub const SECTIONS: [Section; 12] = [
     Section {
         name: "tables",
         share: Share::Part(3),
@@ -178,6 +190,16 @@ pub const SECTIONS: [Section; 11] = [
         is_followed: true,
         is_exchange: false,
         scene: receivers::scene,
+        close: |_| {},
+    },
+    Section {
+        name: "masters",
+        share: Share::Whole(masters::CASES),
+        needs: &["ask", "reply", "lecom", "love", "lucid", "poke", "peek"],
+        entries: &MASTER_ENTRIES,
+        is_followed: true,
+        is_exchange: false,
+        scene: masters::scene,
         close: |_| {},
     },
     Section {

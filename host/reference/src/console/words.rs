@@ -78,6 +78,24 @@ pub fn signed(word: &[u8]) -> Result<i32, Unreadable> {
     i32::try_from(value).map_err(|_| Unreadable)
 }
 
+/// The first word as [`unsigned`] reads it, and the words after it.
+pub fn split_unsigned<T: TryFrom<i64>>(words: &[u8]) -> Result<(T, &[u8]), Unreadable> {
+    let (word, words) = split_word(words);
+    Ok((unsigned(word)?, words))
+}
+
+/// The words to the line's end, each as [`unsigned`] reads it.
+pub fn all_unsigned<T: TryFrom<i64>>(words: &[u8]) -> Result<Vec<T>, Unreadable> {
+    let mut numbers = Vec::new();
+    let mut left = words;
+    while end(left).is_err() {
+        let (number, words) = split_unsigned(left)?;
+        numbers.push(number);
+        left = words;
+    }
+    Ok(numbers)
+}
+
 /// ROOM, and the words after it.
 pub fn room(words: &[u8]) -> Result<(usize, &[u8]), Unreadable> {
     let (room, words) = split_word(words);

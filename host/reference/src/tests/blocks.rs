@@ -1,4 +1,4 @@
-use crate::blocks::{all_hex, exclusive_or, exclusive_or_of_eight, padded, sum, sum_of, sum_of_first};
+use crate::blocks::{all_hex, exclusive_or, exclusive_or_of_eight, last_eight, padded, sum, sum_of, sum_of_first};
 
 /// Bytes whose sums pass 256 many times.
 fn block() -> [u8; 32] {
@@ -28,6 +28,21 @@ fn exclusive_ors() {
     assert_eq!(exclusive_or(&block), plain(&block));
     let eight: [u8; 8] = std::array::from_fn(|place| block[place]);
     assert_eq!(exclusive_or_of_eight(u64::from_le_bytes(eight)), plain(&eight));
+}
+
+#[test]
+fn the_last_eight_of_every_length() {
+    let block = block();
+    for count in 0..=32 {
+        let bytes = &block[..count];
+        let expected = (count >= 4).then(|| {
+            let mut last = [0; 8];
+            let kept = count.min(8);
+            last[8 - kept..].copy_from_slice(&bytes[count - kept..]);
+            u64::from_le_bytes(last)
+        });
+        assert_eq!(last_eight(bytes), expected);
+    }
 }
 
 #[test]

@@ -1,4 +1,4 @@
-use crate::card::{governor, restart, set_probe, Card, Governor, PENDING_BITS, PENDING_CHANGE};
+use crate::card::{governor, restart, set_probe, Card, Governor, Hundredths, Tenths, PENDING_BITS, PENDING_CHANGE};
 use crate::numbers::{Number, Reply};
 use crate::{datalink, image, lecom, love, lucid};
 
@@ -23,6 +23,21 @@ fn degrees_are_half_the_code_less_40() {
         };
         assert_eq!(f64::from(degrees) * 2.0, f64::from(code) - 80.0);
     }
+}
+
+/// The temperatures of codes 0 to 254 and no others; -1 is none of them.
+#[test]
+fn temperatures_that_a_code_gives() {
+    let codes: Vec<i32> = (0..=254).map(|code| 5 * code - 400).collect();
+    for tenths in (-2_000..2_000).chain([i32::MIN, i32::MAX, 65_536]) {
+        assert_eq!(Tenths::of_a_code(tenths).is_some(), codes.contains(&tenths), "{tenths}");
+    }
+    for hundredths in (-20_000..20_000).chain([i32::MIN, i32::MAX]) {
+        let is_code = hundredths % 10 == 0 && codes.contains(&(hundredths / 10));
+        assert_eq!(Hundredths::of_a_code(hundredths).is_some(), is_code, "{hundredths}");
+    }
+    assert_eq!(Tenths::of_a_code(-10), Some(Tenths(-10)));
+    assert_eq!(Hundredths::of_a_code(8_700), Some(Hundredths(8_700)));
 }
 
 #[test]

@@ -1,3 +1,5 @@
+mod masters;
+
 use crate::console::run;
 
 /// What a whole input writes.
@@ -223,5 +225,9 @@ fn help_lists_the_calls() {
     assert!(help.starts_with("calls: probe CHANNEL CODE; restart; governor CHANNEL; datalink ROOM BYTES; "));
     assert!(help.ends_with("; poke TABLE PLACE VALUE; peek TABLE; help\n"));
     assert!(help.contains("; lucid ROOM BYTES; receive DIALECT ROOM BYTES; quiet DIALECT; save ROOM; "));
-    assert_eq!(help.matches("; ").count(), 16);
+    assert!(
+        help.contains("; step ROOM BYTES; ask lecom ROOM ADDRESS read CODE; ask lecom ROOM ADDRESS write CODE VALUE; ")
+    );
+    assert!(help.contains("; ask lucid ROOM reset CHANNEL OPTION; reply lecom BYTES; reply love BYTES; "));
+    assert_eq!(help.matches("; ").count(), 31);
 }

@@ -1,6 +1,6 @@
 use crate::figures::{
-    decimal, decimal_value, four_figures, hex_byte, hex_figures, is_upper_hex, shortest_decimal, upper_hex_byte,
-    value_of_eight, value_of_four, DECIMAL_MOST, EIGHT_ZEROS,
+    decimal, decimal_value, four_figures, hex_byte, hex_figures, is_upper_hex, shortest_decimal, two_figures,
+    upper_hex_byte, value_of_eight, value_of_four, value_of_shortest, DECIMAL_MOST, EIGHT_ZEROS,
 };
 
 /// Every magnitude up to 9,999, the neighbours of every power of ten, and steps over the rest, of either sign.
@@ -16,6 +16,7 @@ fn values() -> impl Iterator<Item = i32> {
 fn a_decimal_in_one_word() {
     for value in values() {
         let (text, count) = shortest_decimal(value);
+        assert_eq!(value_of_shortest(text, count), Some(value));
         let bytes = text.to_le_bytes();
         let (text, rest) = bytes.split_at(count as usize);
         assert_eq!(text, value.to_string().as_bytes());
@@ -25,11 +26,39 @@ fn a_decimal_in_one_word() {
 }
 
 #[test]
+fn what_is_no_shortest_decimal() {
+    let read = |text: &[u8]| {
+        let mut word = [0; 8];
+        word[..text.len()].copy_from_slice(text);
+        value_of_shortest(u64::from_le_bytes(word), text.len() as u32)
+    };
+    assert_eq!(read(b"99999999"), Some(99_999_999));
+    assert_eq!(read(b"-9999999"), Some(-9_999_999));
+    for text in ["-", "-0", "--1", "00", "01", "-01", "+1", "1-", " 1", "1 ", "1.0", "A"] {
+        assert_eq!(read(text.as_bytes()), None, "{text}");
+    }
+    for byte in (0..=255_u8).filter(|byte| !byte.is_ascii_digit()) {
+        for place in 1..8 {
+            let mut text = *b"19283746";
+            text[place] = byte;
+            assert_eq!(read(&text), None);
+        }
+    }
+}
+
+#[test]
 fn eight_figures_in_one_word() {
     for value in values().map(i32::unsigned_abs) {
         let text = format!("{value:08}");
         let figures = u64::from_le_bytes(text.as_bytes().try_into().expect("eight figures")) ^ EIGHT_ZEROS;
         assert_eq!(value_of_eight(figures), Some(value));
+    }
+}
+
+#[test]
+fn two_figures_of_a_value() {
+    for value in 0..100 {
+        assert_eq!(two_figures(value), format!("{value:02}").as_bytes());
     }
 }
 

@@ -23,7 +23,7 @@ run-requires : tie.Need-run-requires
 run-requires c κs = search needs
 
 tell-requires : tie.Need-tell-requires
-tell-requires c κs = (search needs, (search needs, c .before .before .before .before .before .before .before .before .before .before .before .before .before .before .before .before .before .before .before .before .pre .0 .room))
+tell-requires c κs = (search needs, (search needs, c .before .before .before .before .before .before .before .before .before .before .before .before .before .before .before .before .before .before .before .before .before .pre .0 .room))
 
 settle-requires : tie.Need-settle-requires
 settle-requires c κs = search needs
@@ -33,8 +33,8 @@ goes-on-requires c κs = search needs
 
 returns : tie.Need-returns
 returns c =
-    let read = c .before .before .before .before .before .before .before .before .before .before .before .before .before .before .before .before .before .before .before .before .before .next .ensures in
-    let kept = c .before .before .settle .ensures in
+    let read = c .before .before .before .before .before .before .before .before .before .before .before .before .before .before .before .before .before .before .before .before .before .before .next .ensures in
+    let kept = c .before .before .before .settle .ensures in
     (standing (read .0) (read .1) (kept .0) (kept .1), search needs)
 
 pub go-on-spec : {M : Type 1} → statement M

@@ -23,8 +23,8 @@ returns-2 : tie.Need-returns-2
 unfolding parameterAsked
 returns-2 c = rw (← c .before .before .before .before .pair .ensures .0, ← c .before .place-of .ensures) (search (yes, no, told-yes, told-no, eq-eqb, ne-eqb) depth 12)
 
-value-in-requires : tie.Need-value-in-requires
-value-in-requires c κs = c .before .before .before .before .before .before .pre .value (c .if2 .left)
+quad-requires : tie.Need-quad-requires
+quad-requires c κs = c .before .before .before .before .before .before .pre .value (c .if2 .left)
 
 cast-in-range : tie.Need-cast-in-range
 cast-in-range c = search needs
@@ -37,14 +37,14 @@ in-range-requires c κs = search needs
 
 returns-3 : tie.Need-returns-3
 unfolding parameterAsked
-returns-3 c = rw (← c .before .before .before .before .before .before .before .pair .ensures .0, ← c .before .before .before .before .place-of .ensures, ← c .before .before .value-in .ensures) (search (yes, no, told-yes, told-no, eq-eqb, ne-eqb) depth 12)
+returns-3 c = rw (← c .before .before .before .before .before .before .before .pair .ensures .0, ← c .before .before .before .before .place-of .ensures, ← c .before .before .quad .ensures) (search (yes, no, told-yes, told-no, eq-eqb, ne-eqb) depth 12)
 
 is-saved-requires : tie.Need-is-saved-requires
 is-saved-requires c κs = search needs
 
 returns-4 : tie.Need-returns-4
 unfolding parameterAsked
-returns-4 c = rw (← c .before .before .before .before .before .before .before .before .pair .ensures .0, ← c .before .before .before .before .before .place-of .ensures, ← c .before .before .before .value-in .ensures, ← c .is-saved .ensures) (search (yes, no, told-yes, told-no, eq-eqb, ne-eqb) depth 12)
+returns-4 c = rw (← c .before .before .before .before .before .before .before .before .pair .ensures .0, ← c .before .before .before .before .before .place-of .ensures, ← c .before .before .before .quad .ensures, ← c .is-saved .ensures) (search (yes, no, told-yes, told-no, eq-eqb, ne-eqb) depth 12)
 
 pub parameter-asked-spec : {M : Type 1} → statement M
 parameter-asked-spec =
@@ -55,7 +55,7 @@ parameter-asked-spec =
     returns
     place-of-requires
     returns-2
-    value-in-requires
+    quad-requires
     cast-in-range
     add-in-range
     in-range-requires

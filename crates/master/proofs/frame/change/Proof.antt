@@ -5,7 +5,8 @@ use lib.ListN.{length, take, length-take}
 use mathlib.Core.Path.{_≡_, sym, ap, _∙_}
 use native.Mathlib.Omega.{arith}
 use Rattle.card.proofs.Replies.{wrote-as}
-use Rattle.master.proofs.Frames.{pairs-length, change-bytes, change-bits, command-most, overlay-front}
+use Rattle.wire.proofs.Buffers.{overlay-front}
+use Rattle.master.proofs.Frames.{pairs-length, change-bytes, change-bits, command-most}
 use Rattle.master.proofs.Requests.{sent-few, bits-few, paired-bits}
 use Rattle.master.specs.Request.{askOf}
 use Rattle.master.specs.Frames.{pairs}

@@ -2,15 +2,18 @@
 
 mod lists;
 
+use crate::asked::Mastered;
 use crate::card::{ranged_places, PART_TABLES, SMALL_TABLES};
 use crate::frames::{datalink::Datalink, lecom::Lecom, love::Love, lucid::Lucid, Dialect};
+use crate::masters::Master;
 use crate::receivers::Receiver;
+use crate::rng::Rng;
 use crate::text::{hex_words, LINE_MOST};
 use crate::writer::Writer;
-use lists::{LIMIT_LINES, ODD_BYTES, ODD_LINES, ODD_NUMBERS};
+use lists::{LIMIT_LINES, ODD_BYTES, ODD_LINES, ODD_NUMBERS, REQUEST_LINES};
 
 /// Scenes of this section.
-const SCENES: usize = 7;
+const SCENES: usize = 8;
 /// Lines of one scene.
 const LINES: usize = 8;
 /// Tables that readable lines poke: all small ones but the pending change, of which entries may be unknown.
@@ -19,8 +22,10 @@ const POKED_TABLES: &[&str] = SMALL_TABLES.split_at(SMALL_TABLES.len() - 1).0;
 const POKED_PLACES: usize = 3;
 /// Lengths of long lines: one below the longest, the longest, one above, and far above.
 const LONG_LENGTHS: [usize; 4] = [LINE_MOST, LINE_MOST + 1, LINE_MOST - 1, 70_000];
+/// Numbers of one scene that are put into requests to the masters.
+const REQUEST_NUMBERS: usize = 2;
 /// Kinds of long lines.
-const LONG_KINDS: usize = 8;
+const LONG_KINDS: usize = 10;
 
 /// Writes the next scene.
 pub fn scene(out: &mut Writer) {
@@ -34,6 +39,7 @@ pub fn scene(out: &mut Writer) {
         3 => numbers(out, turn),
         4 => noise_lines(out),
         5 => limit_lines(out, turn),
+        6 => request_numbers(out, turn),
         _ => long_lines(out, turn),
     }
     if out.rng.chance(20) {
@@ -55,7 +61,7 @@ pub fn close(out: &mut Writer) {
             long_line(kind, length)
         }
     };
-    out.last(&line);
+    out.bare(&line);
 }
 
 /// Makes the entries fit again that lines of this section poke.
@@ -73,10 +79,28 @@ fn repair(out: &mut Writer) {
     }
 }
 
-/// Steps before the first request, readable or not.
+/// Steps and replies before the first request, readable or not; each dialect has its own.
 fn no_request(out: &mut Writer) {
     for line in ["step 38", "step 0 7E", "step 1025", "step 38 7", "step"] {
         out.call(line);
+    }
+    for line in [
+        "reply lecom",
+        "reply love 06",
+        "reply lucid 00 00",
+        "reply lecom 1",
+        "reply x",
+        "reply",
+    ] {
+        out.call(line);
+    }
+    let mut requests = ["lecom 6 11 read 5", "love 9 50 status", "lucid 3 getio 0 16"];
+    out.rng.shuffle(&mut requests);
+    for request in requests {
+        out.call(&format!("ask {request}"));
+        for master in Master::ALL {
+            out.call(&format!("reply {} 15", master.word()));
+        }
     }
 }
 
@@ -159,6 +183,20 @@ fn numbers(out: &mut Writer, turn: usize) {
     repair(out);
 }
 
+/// Odd numbers in turn, in the place of every number of requests to the masters. A reply after each shows which request is
+/// kept, and a look in the end that no table changed.
+fn request_numbers(out: &mut Writer, turn: usize) {
+    for place in 0..REQUEST_NUMBERS {
+        let number = ODD_NUMBERS[(REQUEST_NUMBERS * turn + place) % ODD_NUMBERS.len()];
+        for (line, telling) in REQUEST_LINES {
+            out.bare(line.replace('N', number).as_bytes());
+            out.bare(telling.as_bytes());
+        }
+    }
+    let line = request(&mut out.rng);
+    out.call(&line);
+}
+
 /// Random bytes, each line on the card as the one before left it.
 fn noise_lines(out: &mut Writer) {
     for _ in 0..LINES {
@@ -199,6 +237,8 @@ fn long_line(kind: usize, length: usize) -> Vec<u8> {
         4 => (b"datalink 38", b" 7E"),
         5 => (b"request change 3 4112", b" 5A"),
         6 => (b"receive lecom 25", b" 31"),
+        7 => (b"ask lucid 1024 setiogroup 15 16", b" 7"),
+        8 => (b"reply lecom", b" 15"),
         _ => (b"x", b"x"),
     };
     let mut line = start.to_vec();
@@ -217,7 +257,7 @@ fn readable(out: &mut Writer) -> Vec<String> {
     let shown = rng.pick(&SMALL_TABLES);
     let poked = rng.pick(POKED_TABLES);
     let receiver = rng.pick(&Receiver::ALL).word();
-    let line = match rng.below(18) {
+    let line = match rng.below(20) {
         0 => format!("probe {} {byte}", byte % 5),
         1 => "restart".to_owned(),
         2 => format!("governor {}", byte % 5),
@@ -239,7 +279,25 @@ fn readable(out: &mut Writer) -> Vec<String> {
         14 => format!("quiet {receiver}"),
         15 => format!("poke part {receiver} {} {byte}", byte % 3),
         16 => format!("peek part {receiver}"),
+        17 => request(rng),
+        18 => format!(
+            "reply {}{}",
+            rng.pick(&Master::ALL).word(),
+            hex_words(&rng.bytes(usize::from(byte % 3)))
+        ),
         _ => format!("peek {shown}"),
     };
     line.split(' ').map(str::to_owned).collect()
+}
+
+/// A request to any master, at or past a limit or not.
+fn request(rng: &mut Rng) -> String {
+    let master = rng.pick(&Master::ALL);
+    let requests = match master {
+        Master::Lecom => Lecom::limits(),
+        Master::Love => Love::limits(),
+        Master::Lucid => Lucid::limits(),
+    };
+    let request = &requests[rng.below(requests.len())];
+    format!("ask {} {} {request}", master.word(), rng.pick(&[0, 9, 1024]))
 }

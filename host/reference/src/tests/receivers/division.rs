@@ -4,19 +4,9 @@
 use super::{Line, Plain, LINES};
 use crate::card::Card;
 use crate::numbers::Number;
-
-/// Random numbers (SplitMix64).
-struct Random(u64);
+use crate::tests::Random;
 
 impl Random {
-    fn below(&mut self, count: usize) -> usize {
-        self.0 = self.0.wrapping_add(0x9E37_79B9_7F4A_7C15);
-        let mut mixed = self.0;
-        mixed = (mixed ^ (mixed >> 30)).wrapping_mul(0xBF58_476D_1CE4_E5B9);
-        mixed = (mixed ^ (mixed >> 27)).wrapping_mul(0x94D0_49BB_1331_11EB);
-        ((mixed ^ (mixed >> 31)) % count as u64) as usize
-    }
-
     /// Bytes that tell in a share of ten, and else any.
     fn bytes(&mut self, line: Line, count: usize) -> Vec<u8> {
         let share = self.below(11);

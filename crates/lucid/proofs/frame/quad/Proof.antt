@@ -1,9 +1,9 @@
--- `lucid::frame::value_in` meets its contract. Assumes nothing.
-use Rattle.lucid.specs.Form.{numberAt}
+-- `lucid::frame::quad` meets its contract. Assumes nothing.
+use Rattle.lucid.proofs.Numbers.{number-halves}
 use native.Mathlib.Omega.{arith}
 use borrow.Author.Needs.{needs}
-use Rattle.lucid.proofs.frame.value_in.Statement.{statement}
-use Rattle.lucid.proofs.frame.value_in.Tie as tie
+use Rattle.lucid.proofs.frame.quad.Statement.{statement}
+use Rattle.lucid.proofs.frame.quad.Tie as tie
 
 pair-requires : tie.Need-pair-requires
 pair-requires c κs = search needs
@@ -21,9 +21,8 @@ add-result : tie.Need-add-result
 add-result c = search needs
 
 returns : tie.Need-returns
-unfolding numberAt
-returns c = omega arith
+returns c = let a = c .before .before .before .args in omega (arith, number-halves (a .f .now) (a .at))
 
-pub value-in-spec : {M : Type 1} → statement M
-value-in-spec =
+pub quad-spec : {M : Type 1} → statement M
+quad-spec =
     tie.close (tie.spec pair-requires add-pair pair-requires-2 mul-result add-result returns)

@@ -1,0 +1,3 @@
+pub mod Requests
+pub mod Unknowns
+pub mod Hearings

@@ -1,0 +1,4 @@
+pub mod Shown
+pub mod Errors
+pub mod Written
+pub mod Makes

@@ -1,0 +1,4 @@
+pub mod Requests
+pub mod Demands
+pub mod Made
+pub mod Values

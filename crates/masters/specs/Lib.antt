@@ -1,0 +1,4 @@
+pub mod Lecom
+pub mod Love
+pub mod Lucid
+pub mod Speaking
