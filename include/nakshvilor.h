@@ -117,7 +117,7 @@ uint8_t nk_governor(const uint32_t *words, size_t words_count, const uint8_t *me
  * and its length to *len, which is 0 where nothing is to be sent. A frame above the dialect's longest is NK_FRAME_FORM with
  * nothing to be sent.
  *
- * Worst cases: Datalink 772 instructions and 120 bytes of stack, LECOM 889 and 448, Love 720 and 384, LucidControl 606 and
+ * Worst cases: Datalink 772 instructions and 120 bytes of stack, LECOM 840 and 376, Love 720 and 384, LucidControl 606 and
  * 88. */
 uint8_t nk_datalink(const uint32_t *words, size_t words_count, uint8_t *memory, size_t memory_count, uint8_t *ports,
                     size_t ports_count, const uint8_t *frame, size_t frame_count, uint8_t *answer, size_t answer_count,
@@ -242,7 +242,7 @@ typedef struct {
 
 /* LECOM: `task` NK_READ or NK_WRITE, any other is outside. `address` is a unit's, or collective: 0, 10, 20 .. 90; to a collective
  * address no unit replies. `code` is the code's number: register 5 is 5, probe 0 is 0x60 (read alone), ACTIVATE 0x67, STORE 0x68.
- * `value` is looked at for a write alone. Worst cases: ask 298 instructions and 144 bytes of stack, hear 532 and 496. */
+ * `value` is looked at for a write alone. Worst cases: ask 298 instructions and 144 bytes of stack, hear 465 and 368. */
 uint8_t nk_ask_lecom(uint32_t address, uint8_t task, uint32_t code, int32_t value, uint8_t *frame, size_t frame_count,
                      size_t *len);
 nk_heard nk_hear_lecom(uint32_t address, uint8_t task, uint32_t code, int32_t value, const uint8_t *reply,

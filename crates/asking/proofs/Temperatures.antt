@@ -1,21 +1,17 @@
 -- A word is a temperature exactly if some code gives it, in tenths and in hundredths. Assumes nothing.
 use Prim.{tt}
 use Prim.Native.Nat.{ℕ, _+_, _-_, _*_, _/_, _%_, _≤_, _<_}
-use mathlib.Core.Path.{_≡_, refl, sym}
-use mathlib.Core.Bool.{Bool, true, false, _&&_, _||_}
+use mathlib.Core.Path.{_≡_, sym}
+use mathlib.Core.Bool.{true, _||_}
 use native.Mathlib.Omega.{arith}
 use native.Mathlib.Decide.{decLt}
 use borrow.Author.Tests.{leb-true, le-ltb, eqb-true}
-use lib.Dec.{T, leb, ltb, eqb}
+use lib.Dec.{leb, ltb, eqb}
 use Rattle.wire.specs.Word.{wordValues}
-use Rattle.wire.proofs.Sweep.{all, at}
+use Rattle.wire.proofs.Sweep.{swept}
 use Rattle.wire.proofs.Tests.{and-true}
 use Rattle.card.specs.Probe.{faultCode, tenthsOf}
 use Rattle.asking.specs.Steps.{isTemperature}
-
-T-true : (b : Bool) → T b → b ≡ true
-T-true true t = refl
-T-true false t = absurd t
 
 -- a code below 255 that gives a word
 pub record Coded (word : ℕ) (units : ℕ) : Type 0 where
@@ -26,7 +22,7 @@ pub record Coded (word : ℕ) (units : ℕ) : Type 0 where
 -- tenths
 pub tenths-temperature : (code : ℕ) → code < faultCode → isTemperature 1 (tenthsOf code) ≡ true
 unfolding isTemperature tenthsOf
-tenths-temperature code h = T-true _ (at (λ k. isTemperature 1 (tenthsOf k)) faultCode tt code h)
+tenths-temperature code h = swept (λ k. isTemperature 1 (tenthsOf k)) faultCode tt code h
 
 pub tenths-coded : (word : ℕ) → word < wordValues → isTemperature 1 word ≡ true → Coded word 1
 unfolding isTemperature tenthsOf
@@ -45,7 +41,7 @@ low-tenths code h = omega arith
 high-tenths : (code : ℕ) → 80 ≤ code → code < faultCode → tenthsOf code ≡ 5 * code - 400
 unfolding tenthsOf
 high-tenths code h l =
-    let t : (ltb code 80 || eqb (tenthsOf code) (5 * code - 400)) ≡ true = T-true _ (at (λ k. ltb k 80 || eqb (tenthsOf k) (5 * k - 400)) faultCode tt code l) in
+    let t : (ltb code 80 || eqb (tenthsOf code) (5 * code - 400)) ≡ true = swept (λ k. ltb k 80 || eqb (tenthsOf k) (5 * k - 400)) faultCode tt code l in
     eqb-true (tenthsOf code) (5 * code - 400) (rw (le-ltb code 80 h) at t)
 
 plain : (word code : ℕ) → word < wordValues → code < faultCode → 80 ≤ code → (word + 4000) % wordValues ≡ 50 * code → word ≡ 50 * code - 4000
@@ -58,7 +54,7 @@ plain word code w l h e = by (decLt word 4294963296)
 -- hundredths
 pub hundredths-temperature : (code : ℕ) → code < faultCode → isTemperature 10 (10 * tenthsOf code % wordValues) ≡ true
 unfolding isTemperature tenthsOf
-hundredths-temperature code h = T-true _ (at (λ k. isTemperature 10 (10 * tenthsOf k % wordValues)) faultCode tt code h)
+hundredths-temperature code h = swept (λ k. isTemperature 10 (10 * tenthsOf k % wordValues)) faultCode tt code h
 
 pub hundredths-coded : (word : ℕ) → word < wordValues → isTemperature 10 word ≡ true → Coded word 10
 unfolding isTemperature

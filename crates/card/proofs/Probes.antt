@@ -1,7 +1,7 @@
 -- The probe reading over all codes: 255 is the fault, and every other code is 5 × code − 400 tenths, within −400 to 870. Assumes nothing.
 use Prim.Native.Nat.{ℕ, _*_, _≤_, _<_}
 use mathlib.Core.Path.{_≡_, refl}
-use mathlib.Core.Bool.{Bool, true, false, not}
+use mathlib.Core.Bool.{true, not}
 use lib.IntN.{subℕ}
 use lib.Dec.{T, eqb}
 use mir.Syntax.{w32}
@@ -11,7 +11,7 @@ use native.Mathlib.Omega.{arith}
 use Rattle.wire.specs.Choose.{choose}
 use Rattle.wire.specs.Word.{minus}
 use Rattle.wire.proofs.Cases.{by-choice}
-use Rattle.wire.proofs.Sweep.{at}
+use Rattle.wire.proofs.Sweep.{at, swept}
 use Rattle.card.specs.Fitness.{inSpan}
 use Rattle.card.specs.Probe.{faultCode, tenthsPerCode, tenthsBelow, tenthsOf, readingOf}
 use Rattle.card.specs.declared.probe.Reading.{Reading}
@@ -44,17 +44,13 @@ pub record Temperate (code : ℕ) : Type 0 where
   pub exact : toZ w32 (tenthsOf code) ≡ subℕ (tenthsPerCode * code) tenthsBelow
   pub within : inSpan (minus tenthsBelow) tenthsMost (tenthsOf code) ≡ true
 
-T-true : (b : Bool) → T b → b ≡ true
-T-true true t = refl
-T-true false t = absurd t
-
 pub temperature-read : (code : ℕ) → code < faultCode → Temperate code
 unfolding readingOf tenthsOf inSpan choose
 temperature-read code h =
     record {
       taken = rw (ne-eqb code faultCode (λ e. let z : ⊥ = omega arith in z));
       exact = sameZ→eq _ _ (at (λ n. sameZ (toZ w32 (tenthsOf n)) (subℕ (tenthsPerCode * n) tenthsBelow)) faultCode tt code h);
-      within = T-true _ (at (λ n. inSpan (minus tenthsBelow) tenthsMost (tenthsOf n)) faultCode tt code h);
+      within = swept (λ n. inSpan (minus tenthsBelow) tenthsMost (tenthsOf n)) faultCode tt code h;
     }
 
 -- "No code gives −1"

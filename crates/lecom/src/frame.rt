@@ -73,7 +73,7 @@ fn pick(test: bool, a: usize, b: usize) -> usize
 }
 
 // The outline of a frame that is not too short.
-pub fn outline_of(sheet: &Sheet, f: &[u8]) -> Outline
+pub(crate) fn outline_of(sheet: &Sheet, f: &[u8]) -> Outline
     requires { ⌜ IsSheet (now sheet) ⌝ }
     requires { ⌜ shortest ≤ length (now f) ⌝ }
     ensures { λ r. ⌜ Outlines (now (f .entry)) r ⌝ }
@@ -248,7 +248,7 @@ fn order_here(sheet: &Sheet, f: &[u8], outline: Outline) -> Order
 }
 
 // What the frame f, of a right length and this outline, asks of the unit at an address.
-pub fn order_of(sheet: &Sheet, address: u32, f: &[u8], outline: Outline) -> Order
+pub(crate) fn order_of(sheet: &Sheet, address: u32, f: &[u8], outline: Outline) -> Order
     requires { ⌜ IsSheet (now sheet) ⌝ }
     requires { ⌜ (lengthRight (length (now f)) ≡ true) × Outlines (now f) outline ⌝ }
     ensures { λ r. ⌜ r ≡ asked address (now (f .entry)) ⌝ }

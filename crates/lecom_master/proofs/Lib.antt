@@ -1,3 +1,4 @@
 pub mod Requests
 pub mod Unknowns
+pub mod Codes
 pub mod Hearings

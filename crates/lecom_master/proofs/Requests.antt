@@ -1,5 +1,5 @@
 -- What is known of a request that 7 does not refuse, and its bytes written piece by piece. Assumes nothing.
-use Prim.Native.Nat.{ℕ, _+_, _≤_, _<_}
+use Prim.Native.Nat.{ℕ, _+_, _/_, _%_, _≤_, _<_}
 use mathlib.Core.Path.{_≡_, refl, ap, _∙_}
 use mathlib.Core.Bool.{true, _&&_}
 use mathlib.Core.List.{List, [], _∷_, _++_, append-assoc}
@@ -12,11 +12,12 @@ use Rattle.wire.specs.Sum.{byteValues}
 use Rattle.wire.proofs.Buffers.{put-set, part-put, put-put}
 use Rattle.wire.proofs.Cases.{by-choice}
 use Rattle.wire.proofs.Tests.{and-true, either}
-use Rattle.figures.specs.Figure.{pairOf}
+use Rattle.figures.specs.Figure.{decimal, charOf, pairOf}
 use Rattle.figures.specs.Signed.{textOf}
+use Rattle.figures.proofs.Characters.{figure-char, pair-all}
 use Rattle.card.specs.Fitness.{lecomLeast, lecomMost, lecomRight}
-use Rattle.lecom.specs.Form.{etx, standardHex, lastRegister, firstProbe, lastProbe, activate, store, namedBy, known, writable}
-use Rattle.lecom.specs.Frame.{bccOf}
+use Rattle.lecom.specs.Form.{etx, eot, standardHex, lastRegister, firstProbe, lastProbe, activate, store, namedBy, known, writable}
+use Rattle.lecom.specs.Frame.{figuresRight, tensIn, onesIn, bccOf}
 use Rattle.lecom.specs.declared.form.Named.{Named}
 use Rattle.lecom.specs.declared.form.Named.the-variants.{Register, Probe, Activate, Store, Nothing}
 use Rattle.lecom_master.specs.Request.{isCollective, addressRight, taskRight, askable, body, checked}
@@ -62,6 +63,23 @@ pub address-most : (address : ℕ) → addressRight address ≡ true → address
 unfolding addressRight isCollective
 address-most address h =
     either (lecomRight address) _ h (λ a. unit-most address a) (λ b. leb-true address lecomMost (and-true (leb address lecomMost) _ b .0))
+
+-- the figures of an address, in a frame that begins with it
+module _ (address : ℕ) (most : address ≤ lecomMost) (rest : List ℕ) where
+  abbrev frame : List ℕ
+  frame = eot ∷ charOf (address / decimal) ∷ charOf (address % decimal) ∷ rest
+
+  pub figures-right : figuresRight frame ≡ true
+  unfolding figuresRight
+  figures-right = pair-all decimal (address / decimal) (address % decimal) (omega arith) (omega arith) (omega arith) (omega arith)
+
+  pub tens : tensIn frame ≡ address / decimal
+  unfolding tensIn
+  tens = figure-char (address / decimal) (omega arith)
+
+  pub ones : onesIn frame ≡ address % decimal
+  unfolding onesIn
+  ones = figure-char (address % decimal) (omega arith)
 
 -- both halves of what makes a request askable
 pub askable-parts : (q : Request) → askable q ≡ true → (addressRight (q .address) ≡ true) × (taskRight (q .task) ≡ true)

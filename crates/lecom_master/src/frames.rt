@@ -34,7 +34,7 @@ pub(crate) fn put_checked(out: &mut [u8], at: usize, code: u32, value: u32) -> u
 }
 
 // Writes EOT and the two address figures.
-pub(crate) fn put_start(out: &mut [u8], address: u32)
+fn put_start(out: &mut [u8], address: u32)
     requires { ⌜ (address ≤ lecomMost) × (startAt ≤ length (now out)) ⌝ }
     ensures { λ _. ⌜ Wrote (eot ∷ charOf (address / decimal) ∷ charOf (address % decimal) ∷ []) (now (out .entry)) startAt (now (out .exit)) ⌝ }
 {

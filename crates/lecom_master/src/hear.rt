@@ -6,31 +6,33 @@ use crate::request::Task;
 use asking::Heard;
 use card::fitness::REGISTER_MOST;
 use card::numbers::FRAME_FORM;
-use card::numbers::RANGE_UNKNOWN;
+use figures::NO_BYTE;
 use figures::Parsed;
+use figures::UPPER_HEX;
+use figures::sheet::Sheet;
 use lecom::form;
 use lecom::form::Lecom;
 use lecom::form::Named;
-use lecom::frame;
-use lecom::frame::Order;
+use wire::BYTE_VALUES;
 ghost use mathlib.Core.Path.{_≡_};
-ghost use mathlib.Core.Bool.{true, _&&_, not};
+ghost use mathlib.Core.Bool.{true};
 ghost use mathlib.Core.List.{[], _∷_};
-ghost use Prim.Native.Nat.{_+_, _≤_, _<_};
+ghost use Prim.Native.Nat.{ℕ, _+_, _≤_, _<_};
 ghost use lib.ListN.{length};
 ghost use Rattle.wire.specs.Choose.{choose};
 ghost use Rattle.wire.specs.Buffer.{same};
 ghost use Rattle.wire.specs.Sum.{byteValues};
+ghost use Rattle.figures.specs.Sheet.{IsSheet};
 ghost use Rattle.card.specs.Fitness.{lecomMost};
 ghost use Rattle.card.specs.Numbers.{frameForm};
-ghost use Rattle.card.specs.Reply.{Wrote};
-ghost use Rattle.lecom.specs.Form.{ack, startAt, standardHex, extendedHex};
-ghost use Rattle.lecom.specs.Frame.{isWrite, asked};
+ghost use Rattle.lecom.specs.Form.{ack, standardHex, extendedHex};
+ghost use Rattle.lecom.specs.Frame.{pairIn};
 ghost use Rattle.asking.specs.Hearing.{hearingOf};
 ghost use Rattle.asking.specs.Hearing.Hearing.{Done, Unread};
 ghost use Rattle.figures.specs.declared.Parsed.the-variants.{Value};
 ghost use Rattle.lecom_master.specs.Request.{askable};
-ghost use Rattle.lecom_master.specs.Heard.{answerable, heardValue, dataRead, isUnknown, readOf, unknownCode, isRefusal, heard};
+ghost use Rattle.lecom_master.specs.Heard.{answerable, heardValue, dataRead, unknownCode, isRefusal, heard};
+ghost use Rattle.lecom_master.specs.Stages.{codeRefused, standardUnknown, extendedUnknown};
 
 // The BCC: how many bytes, counted from the end.
 const CHECK_SIZE: usize = 1;
@@ -46,12 +48,8 @@ const ANSWER_SHORTEST: usize = DATA_AT + Lecom::DATA_LEAST + Lecom::CLOSING;
 
 const ANSWER_LONGEST: usize = DATA_AT + TEXT_LONGEST + Lecom::CLOSING;
 
-// How long the reply to an unknown code is, a standard and an extended one, and the longest read.
-const STANDARD_UNKNOWN: usize = 1 + Lecom::STANDARD_HEX + 1;
-
-const EXTENDED_UNKNOWN: usize = 1 + 1 + Lecom::EXTENDED_HEX + 1;
-
-const READ_LONGEST: usize = Lecom::START + 1 + Lecom::EXTENDED_HEX + 1;
+// The shortest reply to an unknown code.
+const UNKNOWN_SHORTEST: usize = 1 + Lecom::STANDARD_HEX + 1;
 
 // Whether a read of what is named may be answered by a value of six figures at most.
 fn is_answerable(named: Named, value: u32) -> bool
@@ -114,52 +112,70 @@ fn hear_write(reply: &[u8]) -> Heard
     Heard::Done
 }
 
-// Whether an order is refused for its code.
-fn is_unknown(order: Order) -> bool
-    ensures { λ r. ⌜ r ≡ isUnknown order ⌝ }
+// The byte that two of a code's hex characters are.
+fn pair_in(sheet: &Sheet, code: &[u8], at: usize) -> u32
+    requires { ⌜ IsSheet (now sheet) ⌝ }
+    requires { ⌜ at + 2 ≤ length (now code) ⌝ }
+    ensures { λ r. ⌜ r ≡ pairIn (now (code .entry)) at ⌝ }
 {
-    match order {
-        Order::Silent(_) => false,
-        Order::Refused(number) => number == RANGE_UNKNOWN,
-        Order::Read(_) => false,
-        Order::Write(_, _) => false,
-    }
+    figures::pair_byte(sheet, code[at], code[at + 1], UPPER_HEX)
 }
 
-// Writes the read that asks the unit at an address for a code's characters.
-fn put_read(out: &mut [u8], address: u32, code: &[u8]) -> usize
-    requires { ⌜ (address ≤ lecomMost) × (startAt + length (now code) < length (now out)) ⌝ }
-    ensures { λ r. ⌜ Wrote (readOf address (now (code .entry))) (now (out .entry)) r (now (out .exit)) ⌝ }
+// Whether two characters are a standard code that names nothing.
+fn is_standard_unknown(sheet: &Sheet, code: &[u8]) -> bool
+    requires { ⌜ IsSheet (now sheet) ⌝ }
+    requires { ⌜ standardHex ≤ length (now code) ⌝ }
+    ensures { λ r. ⌜ r ≡ standardUnknown (now (code .entry)) ⌝ }
 {
-    frames::put_start(out, address);
-    wire::copy(code, out, Lecom::START);
-    let end = Lecom::START + code.len();
-    out[end] = Lecom::ENQ;
-    end + 1
-}
-
-// Whether the unit at an address refuses a read of these code characters for its code.
-fn is_refused_code(address: u32, code: &[u8]) -> bool
-    requires { ⌜ (address ≤ lecomMost) × ((standardHex ≤ length (now code)) × (length (now code) ≤ 1 + extendedHex)) ⌝ }
-    ensures { λ r. ⌜ r ≡ (not (isWrite (readOf address (now (code .entry)))) && isUnknown (asked address (readOf address (now (code .entry))))) ⌝ }
-{
-    let mut frame = [0u8; READ_LONGEST];
-    let len = put_read(&mut frame, address, code);
-    let sheet = figures::sheet::take();
-    let outline = frame::outline_of(&sheet, &frame[..len]);
-    if outline.write {
+    let number = pair_in(sheet, code, 0);
+    if number == NO_BYTE {
         return false;
     }
-    is_unknown(frame::order_of(&sheet, address, &frame[..len], outline))
+    !form::is_known(form::named_by(number))
 }
 
-// Whether a reply says that a code is unknown: of the length of one, STX first, EOT last, and the unit would refuse that code.
-fn is_unknown_code(address: u32, reply: &[u8]) -> bool
-    requires { ⌜ address ≤ lecomMost ⌝ }
-    ensures { λ r. ⌜ r ≡ unknownCode address (now (reply .entry)) ⌝ }
+// Whether seven characters are an extended code that names nothing: by its number, or since its subcode is not 00.
+fn is_extended_unknown(sheet: &Sheet, code: &[u8]) -> bool
+    requires { ⌜ IsSheet (now sheet) ⌝ }
+    requires { ⌜ 1 + extendedHex ≤ length (now code) ⌝ }
+    ensures { λ r. ⌜ r ≡ extendedUnknown (now (code .entry)) ⌝ }
+{
+    if code[0] != Lecom::EXTENDED {
+        return false;
+    }
+    let first = pair_in(sheet, code, 1);
+    let second = pair_in(sheet, code, 1 + Lecom::STANDARD);
+    let subcode = pair_in(sheet, code, 1 + Lecom::SUBCODE);
+    if (first == NO_BYTE) | ((second == NO_BYTE) | (subcode == NO_BYTE)) {
+        return false;
+    }
+    if subcode != 0 {
+        return true;
+    }
+    !form::is_known(form::named_by(BYTE_VALUES * first + second))
+}
+
+// Whether a unit, whatever its address, refuses a read of these code characters for its code. The card's judge is not asked: with a second
+// caller the compiler would no longer put it into the card's entry.
+fn is_refused_code(code: &[u8]) -> bool
+    ensures { λ r. ⌜ ((address : ℕ) → address ≤ lecomMost → r ≡ codeRefused address (now (code .entry))) ⌝ }
+{
+    let sheet = figures::sheet::take();
+    if code.len() == Lecom::STANDARD_HEX {
+        return is_standard_unknown(&sheet, code);
+    }
+    if code.len() == 1 + Lecom::EXTENDED_HEX {
+        return is_extended_unknown(&sheet, code);
+    }
+    false
+}
+
+// Whether a reply says that a code is unknown: STX, a code that a unit refuses, EOT.
+fn is_unknown_code(reply: &[u8]) -> bool
+    ensures { λ r. ⌜ ((address : ℕ) → address ≤ lecomMost → r ≡ unknownCode address (now (reply .entry))) ⌝ }
 {
     let n = reply.len();
-    if (n != STANDARD_UNKNOWN) & (n != EXTENDED_UNKNOWN) {
+    if n < UNKNOWN_SHORTEST {
         return false;
     }
     if reply[n - 1] != Lecom::EOT {
@@ -168,18 +184,17 @@ fn is_unknown_code(address: u32, reply: &[u8]) -> bool
     if reply[0] != Lecom::STX {
         return false;
     }
-    is_refused_code(address, &reply[1..n - 1])
+    is_refused_code(&reply[1..n - 1])
 }
 
-// Whether a reply is a refusal from the unit at an address.
-fn is_refusal(address: u32, reply: &[u8]) -> bool
-    requires { ⌜ address ≤ lecomMost ⌝ }
-    ensures { λ r. ⌜ r ≡ isRefusal address (now (reply .entry)) ⌝ }
+// Whether a reply is a refusal from a unit, whatever its address.
+fn is_refusal(reply: &[u8]) -> bool
+    ensures { λ r. ⌜ ((address : ℕ) → address ≤ lecomMost → r ≡ isRefusal address (now (reply .entry))) ⌝ }
 {
     if reply.len() == 1 {
         return reply[0] == Lecom::NAK;
     }
-    is_unknown_code(address, reply)
+    is_unknown_code(reply)
 }
 
 // What is heard in a reply to a request that 7 does not refuse.
@@ -190,7 +205,7 @@ pub(crate) fn hear(request: Request, reply: &[u8]) -> Heard
     if request::is_collective(request.address) {
         return Heard::Unread(FRAME_FORM);
     }
-    if is_refusal(request.address, reply) {
+    if is_refusal(reply) {
         return Heard::Refused;
     }
     let task = request.task;

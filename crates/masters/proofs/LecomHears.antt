@@ -47,10 +47,10 @@ use Rattle.lecom_master.specs.Heard.{dataAt, checkSize, answerable, answerBytes
 use Rattle.lecom_master.specs.declared.request.Task.{Task}
 use Rattle.lecom_master.specs.declared.request.Task.the-variants.{Read, Write}
 use Rattle.lecom_master.specs.declared.request.Request.{Request}
-use Rattle.lecom_master.proofs.Requests.{askable-parts, unit-most, checked-length}
-use Rattle.lecom_master.proofs.Unknowns.{text-size, unknown-says, one-byte}
+use Rattle.lecom_master.proofs.Requests.{unit-most, ones, askable-parts, checked-length}
+use Rattle.lecom_master.proofs.Unknowns.{text-size, unknown-says, too-short}
 use Rattle.masters.specs.Lecom.{lecomMaster, orderOf, addresses, askedOf, heardReading, heldBy, answerTo}
-use Rattle.masters.proofs.LecomMeans.{ones, read-at, read-code-end, lecom-means}
+use Rattle.masters.proofs.LecomMeans.{read-at, read-code-end, lecom-means}
 
 -- A unit's own address
 
@@ -273,7 +273,7 @@ heard-nak q own = heard-own q own (nak ∷ [])
 
 heard-ack : (address code value : ℕ) → lecomRight address ≡ true → heard (record { address = address; task = Write code value }) (ack ∷ []) ≡ Done
 unfolding isRefusal heardTask same choose
-heard-ack address code value own = heard-own _ own (ack ∷ []) ∙ rw (← (one-byte address (ack ∷ []) refl))
+heard-ack address code value own = heard-own _ own (ack ∷ []) ∙ rw (← (too-short address (ack ∷ []) (omega arith)))
 
 told-task : (address : ℕ) (task : Task) → lecomRight address ≡ true → taskRight task ≡ true → (card : Card) → Real card
     → heard (record { address = address; task = task }) (obeyed (card .words) (card .memory) (made (record { address = address; task = task })) (orderOf task) .bytes) ≡ answerTo card task

@@ -16,12 +16,12 @@ use Rattle.wire.proofs.Tests.{and-true}
 use Rattle.figures.specs.Figure.{decimal, upperHex, base, charOf, pairOf}
 use Rattle.figures.specs.Signed.{textOf}
 use Rattle.figures.specs.declared.Parsed.the-variants.{Value}
-use Rattle.figures.proofs.Characters.{figure-char, char-least, pair-all}
+use Rattle.figures.proofs.Characters.{char-least, pair-all}
 use Rattle.figures.proofs.Known.{pair-read}
 use Rattle.figures.proofs.Texts.{text-length, parse-text}
 use Rattle.card.specs.Fitness.{inSpan, registerMost, lecomMost}
 use Rattle.lecom.specs.Form.{shortest, longest, lengthRight, stx, etx, eot, enq, extendedMark, startAt, standardHex, closing, dataLeast, dataMost, namedBy, known, writable, takes}
-use Rattle.lecom.specs.Frame.{figuresRight, tensIn, onesIn, collective, reaches, isWrite, codeAt, isExtended, hexAt, codeEnd, sizeRight, endRight, codeRight, bccOf, bccRight, pairIn, codeNumber, subcodeRight, namedIn, codeKnown, writeRight, dataOf, dataRead, valueRight, valueIn, dataRight, ordered, asked}
+use Rattle.lecom.specs.Frame.{collective, reaches, isWrite, codeAt, isExtended, hexAt, codeEnd, sizeRight, endRight, codeRight, bccOf, bccRight, pairIn, codeNumber, subcodeRight, namedIn, codeKnown, writeRight, dataOf, dataRead, valueRight, valueIn, dataRight, ordered, asked}
 use Rattle.lecom.proofs.Frames.{read-start, standard-hex, standard-code}
 use Rattle.lecom.proofs.Passing.{Passed, asked-passed, asked-foreign}
 use Rattle.lecom.proofs.Values.{span-magnitude}
@@ -30,32 +30,20 @@ use Rattle.lecom_master.specs.Request.{taskRight, body, checked, taskBytes, mad
 use Rattle.lecom_master.specs.declared.request.Task.{Task}
 use Rattle.lecom_master.specs.declared.request.Task.the-variants.{Read, Write}
 use Rattle.lecom_master.specs.declared.request.Request.{Request}
-use Rattle.lecom_master.proofs.Requests.{known-byte, writable-known, address-most, askable-parts}
+use Rattle.lecom_master.proofs.Requests.{known-byte, writable-known, address-most, figures-right, tens, ones, askable-parts}
 use Rattle.masters.specs.Lecom.{lecomMaster, numbersIn, orderOf, addresses, askedOf}
 
 -- Address figures
 
 module _ (address : ℕ) (most : address ≤ lecomMost) (rest : List ℕ) where
-  abbrev pub frame : List ℕ
+  abbrev frame : List ℕ
   frame = eot ∷ charOf (address / decimal) ∷ charOf (address % decimal) ∷ rest
-
-  pub figures-right : figuresRight frame ≡ true
-  unfolding figuresRight
-  figures-right = pair-all decimal (address / decimal) (address % decimal) (omega arith) (omega arith) (omega arith) (omega arith)
-
-  tens : tensIn frame ≡ address / decimal
-  unfolding tensIn
-  tens = figure-char (address / decimal) (omega arith)
-
-  pub ones : onesIn frame ≡ address % decimal
-  unfolding onesIn
-  ones = figure-char (address % decimal) (omega arith)
 
   pub reaches-unit : (unit : ℕ) → reaches unit frame ≡ addresses address unit
   unfolding reaches collective addresses
   reaches-unit unit =
       let e : decimal * (address / decimal) + address % decimal ≡ address = omega arith in
-      rw (tens, ones, e)
+      rw (tens address most rest, ones address most rest, e)
 
 -- What comes after them
 

@@ -41,10 +41,10 @@ use Rattle.asking.specs.Claims.{Below, At, Refuses}
 use Rattle.asking.proofs.Bytes.{take-below, drop-below, cons-below, append-below, none-below}
 use Rattle.lecom_master.specs.Heard.{readOf, isUnknown, unknownCode, isRefusal}
 use Rattle.lecom_master.specs.declared.request.Request.{Request}
-use Rattle.lecom_master.proofs.Requests.{unit-most}
+use Rattle.lecom_master.proofs.Requests.{unit-most, figures-right}
 use Rattle.lecom_master.proofs.Unknowns.{unknown-order}
 use Rattle.masters.specs.Lecom.{lecomMaster}
-use Rattle.masters.proofs.LecomMeans.{figures-right, reaches-unit}
+use Rattle.masters.proofs.LecomMeans.{reaches-unit}
 use Rattle.masters.proofs.LecomHears.{not-collective, own-reached}
 use Rattle.masters.proofs.LecomCards.{some-card, some-placed}
 

@@ -7,13 +7,13 @@ use mathlib.Core.Logic.{inl}
 use mathlib.Core.List.{List, [], _∷_, _++_}
 use native.Mathlib.Omega.{arith}
 use borrow.Author.Tests.{ltb-true, eqb-true}
-use lib.Dec.{T, eqb}
+use lib.Dec.{eqb}
 use lib.ListN.{length, take, drop, getD, length-drop, take-append-drop, drop-of-length-le}
 use lib.Seq.{drop-drop, take-all}
 use Rattle.wire.specs.Choose.{choose}
 use Rattle.wire.specs.Sum.{byteValues}
 use Rattle.wire.proofs.Cases.{by-choice}
-use Rattle.wire.proofs.Sweep.{at}
+use Rattle.wire.proofs.Sweep.{swept}
 use Rattle.card.specs.Layout.{channels, parametersEach}
 use Rattle.lucid.specs.Form.{p2At, dataAt, valueAt, getIo, getIoGroup, setIo, setIoGroup, getParam, setParam, channelsOf, demand}
 use Rattle.lucid.specs.Form.{default, persistent, cycleAddress, floorAddress, addressSize, parameterSize, little, numberAt}
@@ -74,15 +74,11 @@ optionOf resets saved = choose resets default 0 + choose saved persistent 0
 option-known : (x : ℕ) → x < byteValues → optionRight setParam x ≡ true → x ≡ optionOf (isReset setParam x) (saves x)
 unfolding optionOf choose
 option-known x h r =
-    let t : test x ≡ true = T-true (test x) (at test byteValues tt x h) in
+    let t : test x ≡ true = swept test byteValues tt x h in
     eqb-true x (optionOf (isReset setParam x) (saves x)) (rw r at t)
   where
     test : ℕ → Bool
     test n = not (optionRight setParam n) || eqb n (optionOf (isReset setParam n) (saves n))
-
-    T-true : (b : Bool) → T b → b ≡ true
-    T-true true t = refl
-    T-true false t = absurd t
 
 module _ (f : List ℕ) (bytes : Below byteValues f) where
   -- the last n bytes are those of their number

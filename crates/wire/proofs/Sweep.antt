@@ -1,6 +1,6 @@
 -- A test that holds at each number below n, by one computed sweep. Assumes nothing.
 use Prim.Native.Nat.{ℕ, zero, suc, _<_}
-use mathlib.Core.Path.{_≡_, subst, sym}
+use mathlib.Core.Path.{_≡_, refl, subst, sym}
 use mathlib.Core.Bool.{Bool, true, false, _&&_}
 use native.Mathlib.Nat.{not-suc-le-zero, eq-or-lt-of-le, le-of-suc-le-suc}
 use mathlib.Core.Logic.{⊎-elim}
@@ -25,3 +25,11 @@ at f (suc n) t k h =
     ⊎-elim (λ (e : k ≡ n). subst (λ (m : ℕ). T (f m)) (sym e) (and-left (f n) (all f n) t))
     (λ l. at f n (and-right (f n) (all f n) t) k l)
     (eq-or-lt-of-le (le-of-suc-le-suc h))
+
+T-true : (b : Bool) → T b → b ≡ true
+T-true true t = refl
+T-true false t = absurd t
+
+-- the same, as an equation
+pub swept : (f : ℕ → Bool) (n : ℕ) → T (all f n) → (k : ℕ) → k < n → f k ≡ true
+swept f n t k h = T-true (f k) (at f n t k h)
