@@ -1,17 +1,16 @@
 -- What the masters of LECOM, Love and LucidControl owe (specs/NoTemperature.antt), by their claims and by what the card owes. Assumes nothing.
 use Prim.{tt}
-use Prim.Native.Nat.{ℕ, zero, suc, _+_, _^_, _≤_, _<_}
+use Prim.Native.Nat.{ℕ, _+_, _^_, _≤_, _<_}
 use mathlib.Core.Path.{_≡_, refl, sym, ap, _∙_, subst}
 use mathlib.Core.Bool.{Bool, true, false, not}
 use mathlib.Core.List.{List, []}
-use native.Mathlib.Omega.{arith}
 use borrow.Author.Tests.{ltb-true}
 use lib.Dec.{T, eqb}
 use lib.ListN.{getD}
 use Rattle.wire.specs.Choose.{choose}
 use Rattle.wire.specs.Buffer.{same as alike}
 use Rattle.wire.proofs.Cases.{by-choice}
-use Rattle.wire.proofs.Sweep.{all, at}
+use Rattle.wire.proofs.Sweep.{all, at, by-four}
 use Rattle.card.specs.Layout.{Card, channels}
 use Rattle.card.specs.Probe.{faultCode}
 use Rattle.card.specs.Reply.{roomLeast}
@@ -60,11 +59,7 @@ use Rattle.faults.proofs.LucidFaults.{lucid-owes}
 -- "Codes 60h to 63h are the probes"
 probe-named : (channel : ℕ) → channel < channels → namedBy (firstProbe + channel) ≡ Probe channel
 unfolding namedBy choose
-probe-named zero h = refl
-probe-named (suc zero) h = refl
-probe-named (suc (suc zero)) h = refl
-probe-named (suc (suc (suc zero))) h = refl
-probe-named (suc (suc (suc (suc channel)))) h = let z : ⊥ = omega (arith, h) in absurd z
+probe-named channel h = by-four (λ k. namedBy (firstProbe + k) ≡ Probe k) refl refl refl refl channel h
 
 -- a task that is a read of a probe to the card is a read of its code
 lecom-task : (task : LecomTask) (channel : ℕ) → channel < channels → lecomOrderOf task ≡ LecomRead (Probe channel) → task ≡ Read (firstProbe + channel)

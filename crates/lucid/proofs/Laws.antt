@@ -19,7 +19,7 @@ use Rattle.card.specs.Probe.{faultCode, readingOf, tenthsOf}
 use Rattle.card.specs.Reply.{WordsReply, onWords, sent, shell, roomLeast, Keeps, leaving}
 use Rattle.card.specs.declared.probe.Reading.the-variants.{Fault}
 use Rattle.card.proofs.Replies.{shell-keeps}
-use Rattle.wire.proofs.Sweep.{at}
+use Rattle.wire.proofs.Sweep.{at, by-four}
 use Rattle.lucid.specs.Form.{channelsFrom, channelsOf, demand}
 use Rattle.lucid.specs.Frame.{asked}
 use Rattle.lucid.specs.Answer.{Values, Held, Failed, joined, group, hundredthsOf, valueOf, read, faulted, obeyed, lucidReply, named, readsProbe, asksProbe}
@@ -135,11 +135,7 @@ asked-alone ws memory memory′ f same = order-same ws memory memory′ f (asked
 -- the mask of GetIo and SetIo names channel P1 alone
 pub one-channel : (channel : ℕ) → channel < channels → channelsOf (2 ^ channel) ≡ channel ∷ []
 unfolding channelsFrom choose
-one-channel zero h = refl
-one-channel (suc zero) h = refl
-one-channel (suc (suc zero)) h = refl
-one-channel (suc (suc (suc zero))) h = refl
-one-channel (suc (suc (suc (suc channel)))) h = let z : ⊥ = omega arith in absurd z
+one-channel channel h = by-four (λ k. channelsOf (2 ^ k) ≡ k ∷ []) refl refl refl refl channel h
 
 -- a code 0 to 254 is (50 × code − 4,000) hundredths, as a word
 pub hundredths-of-code : (code : ℕ) → code < faultCode → hundredthsOf (record { 0 = tenthsOf code }) .0 ≡ (50 * code + minus 4000) % wordValues

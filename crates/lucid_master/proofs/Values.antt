@@ -1,5 +1,5 @@
 -- The values of an answer, one after another: those known so far and those to come. Assumes nothing.
-use Prim.Native.Nat.{ℕ, zero, suc, _+_, _-_, _*_, _≤_, _<_}
+use Prim.Native.Nat.{ℕ, suc, _+_, _-_, _*_, _≤_, _<_}
 use mathlib.Core.Path.{_≡_, refl, sym, ap, _∙_}
 use mathlib.Core.Bool.{Bool, true, false, _&&_}
 use mathlib.Core.List.{List, [], _∷_, _++_, append-assoc, append-nil}
@@ -14,6 +14,7 @@ use Rattle.wire.specs.Choose.{choose}
 use Rattle.wire.specs.Buffer.{same}
 use Rattle.wire.proofs.Cases.{yes}
 use Rattle.wire.proofs.Same.{same-true}
+use Rattle.wire.proofs.Sweep.{by-four}
 use Rattle.wire.proofs.Tests.{and-true, and-true-right, and-false-right, both, same-test}
 use Rattle.card.specs.Layout.{channels}
 use Rattle.lucid.specs.Form.{demand, tenths, pairSize, hundredthsSize, sizeOf, numberAt, ok, errExecution}
@@ -99,14 +100,9 @@ module _ (valueType : ℕ) where
 
 -- a list of four
 list-four : (s : List ℕ) → length s ≡ channels → s ≡ getD s 0 0 ∷ getD s 1 0 ∷ getD s 2 0 ∷ getD s 3 0 ∷ []
-list-four s h = ext-getD 0 s _ h (λ i l. at i (omega arith))
-  where
-    at : (i : ℕ) → i < channels → getD s i 0 ≡ getD (getD s 0 0 ∷ getD s 1 0 ∷ getD s 2 0 ∷ getD s 3 0 ∷ []) i 0
-    at zero l = refl
-    at (suc zero) l = refl
-    at (suc (suc zero)) l = refl
-    at (suc (suc (suc zero))) l = refl
-    at (suc (suc (suc (suc i)))) l = let z : ⊥ = omega arith in absurd z
+list-four s h =
+    ext-getD 0 s _ h
+    (λ i l. by-four (λ k. getD s k 0 ≡ getD (getD s 0 0 ∷ getD s 1 0 ∷ getD s 2 0 ∷ getD s 3 0 ∷ []) k 0) refl refl refl refl i (omega arith))
 
 module _ (valueType n : ℕ) (r : List ℕ) where
   -- the first i values are answerable and stand in `values`; from index at on come the others

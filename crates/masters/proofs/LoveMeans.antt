@@ -1,5 +1,5 @@
 -- Love: a made request means to every unit what was asked. Assumes nothing.
-use Prim.Native.Nat.{ℕ, zero, suc, _+_, _/_, _%_, _<_}
+use Prim.Native.Nat.{ℕ, _+_, _/_, _%_, _<_}
 use mathlib.Core.Path.{_≡_, refl, sym, ap, ap₂, _∙_}
 use mathlib.Core.Bool.{Bool, true, false, _||_}
 use native.Mathlib.Omega.{arith}
@@ -9,6 +9,7 @@ use Rattle.wire.specs.Choose.{choose}
 use Rattle.wire.specs.Length.{between}
 use Rattle.wire.specs.Word.{wordValues}
 use Rattle.wire.proofs.Cases.{yes}
+use Rattle.wire.proofs.Sweep.{by-four}
 use Rattle.wire.proofs.Tests.{and-true}
 use Rattle.figures.specs.Figure.{hex, base, figureOf, charOf, allFigures, pairByte, pairOf}
 use Rattle.figures.specs.Decimal.{digits}
@@ -76,19 +77,11 @@ module _ (place value : ℕ) (word : value < wordValues) (small : magnitude valu
 -- the data of a task are judged as the task
 write-judged : (place value : ℕ) → place < loveCount → orderIn (dataOf (Write place value)) ≡ orderWrite place (dataOf (Write place value))
 unfolding orderIn orderBy parameterOf halfOf choose dataOf pairOf digits pairByte figureOf charOf between
-write-judged zero value h = refl
-write-judged (suc zero) value h = refl
-write-judged (suc (suc zero)) value h = refl
-write-judged (suc (suc (suc zero))) value h = refl
-write-judged (suc (suc (suc (suc place)))) value h = let z : ⊥ = omega arith in absurd z
+write-judged place value h = by-four (λ k. orderIn (dataOf (Write k value)) ≡ orderWrite k (dataOf (Write k value))) refl refl refl refl place h
 
 read-judged : (place : ℕ) → place < loveCount → orderIn (dataOf (Read place)) ≡ ReadOrder place
 unfolding orderIn orderBy parameterOf halfOf choose dataOf pairOf pairByte figureOf charOf between
-read-judged zero h = refl
-read-judged (suc zero) h = refl
-read-judged (suc (suc zero)) h = refl
-read-judged (suc (suc (suc zero))) h = refl
-read-judged (suc (suc (suc (suc place)))) h = let z : ⊥ = omega arith in absurd z
+read-judged place h = by-four (λ k. orderIn (dataOf (Read k)) ≡ ReadOrder k) refl refl refl refl place h
 
 status-judged : orderIn (dataOf Status) ≡ Probe
 unfolding orderIn choose dataOf pairOf pairByte figureOf charOf between

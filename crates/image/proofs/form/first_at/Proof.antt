@@ -1,7 +1,8 @@
 -- `image::form::first_at` meets its contract: the runs before the registers have an entry each. Assumes nothing.
-use Prim.Native.Nat.{ℕ, zero, suc, _≤_}
+use Prim.Native.Nat.{ℕ, _≤_}
 use mathlib.Core.Path.{_≡_, refl}
 use native.Mathlib.Omega.{arith}
+use Rattle.wire.proofs.Sweep.{by-four}
 use Rattle.image.specs.Form.{run, entriesIn, savedRuns}
 use Rattle.image.specs.Scans.{firstOf}
 use Rattle.image.proofs.form.first_at.Statement.{statement}
@@ -9,11 +10,7 @@ use Rattle.image.proofs.form.first_at.Tie as tie
 
 first : (k : ℕ) → k ≤ 3 → k ≡ firstOf k
 unfolding firstOf savedRuns entriesIn run
-first zero h = refl
-first (suc zero) h = refl
-first (suc (suc zero)) h = refl
-first (suc (suc (suc zero))) h = refl
-first (suc (suc (suc (suc k)))) h = let z : ⊥ = omega arith in absurd z
+first k h = by-four (λ n. n ≡ firstOf n) refl refl refl refl k (omega arith)
 
 returns : tie.Need-returns
 returns c = first (c .before .args .k) (c .if1 .taken)

@@ -22,11 +22,11 @@ const TELLING: &[u8] = b"\x00\x01\x02\x03\x04\x05\x06\x15 !-/0129:ACDFLNacdf\xB0
 type Entry = fn(&mut Card, &[u8], &mut [u8]) -> Reply;
 
 /// A request to the card at its address, with what it takes to judge a reply by cards.
-trait Asked {
+trait Asked: Sized {
     const ENTRY: Entry;
+    const MAKE: fn(&Self, &mut [u8]) -> Reply;
+    const HEAR: fn(&Self, &[u8]) -> Heard;
 
-    fn make(&self, frame: &mut [u8]) -> Reply;
-    fn hear(&self, reply: &[u8]) -> Heard;
     /// The card at the request's address as the console starts with it, with all probes failed.
     fn unit(&self) -> Card;
     /// Gives the card any tables.
@@ -104,7 +104,7 @@ fn sealed(asked: &impl Asked, reply: &[u8]) -> Vec<u8> {
 
 /// A card's reply, and others close to it, as they are and with their check characters made right.
 fn compare<A: Asked>(asked: &A, random: &mut Random) {
-    let (number, frame) = made(|room| asked.make(room));
+    let (number, frame) = made(|room| A::MAKE(asked, room));
     assert_eq!(number, 0);
     let mut card = asked.unit();
     asked.vary(&mut card, random);
@@ -116,16 +116,16 @@ fn compare<A: Asked>(asked: &A, random: &mut Random) {
     } else {
         asked.refusal(number, &reply)
     };
-    assert_eq!(asked.hear(&reply), own);
+    assert_eq!(A::HEAR(asked, &reply), own);
     for _ in 0..TRIED {
         let reply = spoiled(random, &reply);
         for reply in [sealed(asked, &reply), reply] {
-            assert_eq!(asked.hear(&reply), expected(asked, &frame, &reply), "{reply:02X?}");
+            assert_eq!(A::HEAR(asked, &reply), expected(asked, &frame, &reply), "{reply:02X?}");
         }
     }
     for frame in asked.refused(b"\x0264\x04") {
         let (number, reply) = call(A::ENTRY, &mut asked.unit(), &frame);
-        assert_eq!(asked.hear(&reply), asked.refusal(number, &reply), "{frame:02X?}");
+        assert_eq!(A::HEAR(asked, &reply), asked.refusal(number, &reply), "{frame:02X?}");
     }
 }
 

@@ -8,14 +8,8 @@ use crate::numbers::Reply;
 
 impl Asked for Request {
     const ENTRY: Entry = crate::love::love;
-
-    fn make(&self, frame: &mut [u8]) -> Reply {
-        make(self, frame)
-    }
-
-    fn hear(&self, reply: &[u8]) -> Heard {
-        hear(self, reply)
-    }
+    const MAKE: fn(&Self, &mut [u8]) -> Reply = make;
+    const HEAR: fn(&Self, &[u8]) -> Heard = hear;
 
     fn unit(&self) -> Card {
         let mut card = Card::new();

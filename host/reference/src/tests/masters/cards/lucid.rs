@@ -9,14 +9,8 @@ use crate::numbers::{Number, Reply};
 /// Of groups the rules' tests tell.
 impl Asked for Request<'_> {
     const ENTRY: Entry = crate::lucid::lucid;
-
-    fn make(&self, frame: &mut [u8]) -> Reply {
-        make(self, frame)
-    }
-
-    fn hear(&self, reply: &[u8]) -> Heard {
-        hear(self, reply)
-    }
+    const MAKE: fn(&Self, &mut [u8]) -> Reply = make;
+    const HEAR: fn(&Self, &[u8]) -> Heard = hear;
 
     fn unit(&self) -> Card {
         Card::new()
