@@ -117,7 +117,7 @@ uint8_t nk_governor(const uint32_t *words, size_t words_count, const uint8_t *me
  * and its length to *len, which is 0 where nothing is to be sent. A frame above the dialect's longest is NK_FRAME_FORM with
  * nothing to be sent.
  *
- * Worst cases: Datalink 772 instructions and 120 bytes of stack, LECOM 840 and 376, Love 720 and 384, LucidControl 606 and
+ * Worst cases: Datalink 772 instructions and 120 bytes of stack, LECOM 840 and 376, Love 720 and 384, LucidControl 608 and
  * 88. */
 uint8_t nk_datalink(const uint32_t *words, size_t words_count, uint8_t *memory, size_t memory_count, uint8_t *ports,
                     size_t ports_count, const uint8_t *frame, size_t frame_count, uint8_t *answer, size_t answer_count,
@@ -257,10 +257,11 @@ nk_heard nk_hear_love(uint32_t address, uint8_t task, uint32_t place, int32_t va
                       size_t reply_count);
 
 /* LucidControl: any other command is outside. `p1` is a channel, of a group a mask; `p2` a type (0x10, 0x40, 0x41), of the
- * commands on parameters the option byte as sent (NK_SET_PARAM without bit 0x01, NK_RESET with it); `address` is looked at for
- * NK_GET_PARAM and NK_SET_PARAM alone. `values` are what is sent: one demand for NK_SET_IO, one for each channel of the mask,
- * lowest first, for NK_SET_IO_GROUP, the parameter's value for NK_SET_PARAM, else none; another count is outside.
- * Worst cases: ask 187 instructions and 120 bytes of stack, hear 253 and 152. */
+ * commands on parameters the option byte as sent (NK_SET_PARAM without bit 0x01, NK_RESET with it); `address` names the
+ * parameter of NK_GET_PARAM, NK_SET_PARAM and NK_RESET (0x1110 or 0x1120) and is not looked at for the others. `values` are what
+ * is sent: one demand for NK_SET_IO, one for each channel of the mask, lowest first, for NK_SET_IO_GROUP, the parameter's value
+ * for NK_SET_PARAM, else none; another count is outside.
+ * Worst cases: ask 188 instructions and 120 bytes of stack, hear 253 and 152. */
 enum {
     NK_GET_IO = 0,
     NK_GET_IO_GROUP = 1,

@@ -552,6 +552,8 @@ static void check_masters(void)
     const struct wish demands = {.source = "SetIoGroup", .dialect = LUCID, .command = NK_SET_IO_GROUP, .p1 = 5, .p2 = 0x10,
                                  .values = {1, 65535}, .values_count = 2};
     const struct wish group = {.source = "GetIoGroup", .dialect = LUCID, .command = NK_GET_IO_GROUP, .p1 = 5, .p2 = 0x10};
+    const struct wish reset = {.source = "02 M-103", .dialect = LUCID, .command = NK_RESET, .p2 = 0x81, .address = 0x1110};
+    const struct wish unnamed = {.source = "02 M-103", .dialect = LUCID, .command = NK_RESET, .p2 = 0x81};
     const struct wish task_3 = {.source = "task 3", .dialect = LOVE, .address = 0x32, .task = 3};
     const struct wish command_7 = {.source = "command 7", .dialect = LUCID, .command = 7, .p2 = 0x10};
     const struct wish written = {.source = "a probe", .dialect = LECOM, .address = 11, .task = NK_WRITE, .code = 0x60};
@@ -580,11 +582,15 @@ static void check_masters(void)
     inquire(&card, &channel, &(struct told){BYTES(0x46, 0x00, 0x40, 0x00), NK_HEARD_VALUE, 1, {-10}});
     inquire(&card, &demands, &(struct told){BYTES(0x42, 0x05, 0x10, 0x04, 0x01, 0x00, 0xFF, 0xFF), NK_HEARD_DONE, 0, {0}});
     inquire(&card, &group, &(struct told){BYTES(0x48, 0x05, 0x10, 0x00), NK_HEARD_VALUE, 2, {1, 65535}});
+    card.words[NK_PARAMETERS] = card.words[NK_KEPT] = 750000;
+    inquire(&card, &reset, &(struct told){BYTES(0xA0, 0x00, 0x81, 0x02, 0x10, 0x11), NK_HEARD_DONE, 0, {0}});
+    check(card.words[NK_PARAMETERS] == DEFAULT_1110 && card.words[NK_KEPT] == DEFAULT_1110, reset.source, "both copies");
     check_unheard(&read, NULL, 0, NK_FRAME_FORM, "no reply");
     check_unheard(&read, BYTES(0x02, 0x30, 0x30, 0x39, 0x03, 0x00), NK_CHECK_CHARACTER, "another BCC");
     check_outside(&task_3, "task 3");
     check_outside(&command_7, "command 7");
     check_outside(&written, "a probe written");
+    check_outside(&unnamed, "a reset of address 0");
     end();
 }
 

@@ -160,7 +160,7 @@ static const struct exchange love_cold[] = {
      BYTES(UNIT, 'C', '0', '0', '2', '0', '0', '1', '0', '4', '7', ACK), KEEP},
 };
 
-/* ---- LucidControl: 01 and 002; probe codes 78, 90, 0 and 255 ---- */
+/* ---- LucidControl: 01, 02 and 002; probe codes 78, 90, 0 and 255 ---- */
 
 static const struct exchange lucid_script[] = {
     {"01 P11", BYTES(0x46, 0x00, 0x40, 0x00), NK_ANSWERED, BYTES(0x00, 0x02, 0xF6, 0xFF), KEEP},
@@ -173,8 +173,14 @@ static const struct exchange lucid_script[] = {
      BYTES(0x00, 0x00), EDITS({WORDS, NK_PARAMETERS, 750000}, {WORDS, NK_KEPT, 750000})},
     {"002 4.3.6: read it", BYTES(0xA2, 0x00, 0x00, 0x02, 0x10, 0x11), NK_ANSWERED,
      BYTES(0x00, 0x04, 0xB0, 0x71, 0x0B, 0x00), KEEP},
-    {"01: option 01h", BYTES(0xA0, 0x00, 0x01, 0x00), NK_ANSWERED, BYTES(0x00, 0x00),
+    {"01: 1120h, persistent", BYTES(0xA0, 0x00, 0x80, 0x06, 0x20, 0x11, 0x06, 0x00, 0x00, 0x00), NK_ANSWERED,
+     BYTES(0x00, 0x00), EDITS({WORDS, NK_PARAMETERS + 1, 6}, {WORDS, NK_KEPT + 1, 6})},
+    {"02 M-103: 1110h reset", BYTES(0xA0, 0x00, 0x01, 0x02, 0x10, 0x11), NK_ANSWERED, BYTES(0x00, 0x00),
      EDITS({WORDS, NK_PARAMETERS, DEFAULT_1110})},
+    {"02 M-103: 1120h reset, persistent", BYTES(0xA0, 0x00, 0x81, 0x02, 0x20, 0x11), NK_ANSWERED, BYTES(0x00, 0x00),
+     EDITS({WORDS, NK_PARAMETERS + 1, 0}, {WORDS, NK_KEPT + 1, 0})},
+    {"02 M-103: reset without an address", BYTES(0xA0, 0x00, 0x01, 0x00), NK_FRAME_FORM, BYTES(0xB0, 0x00), KEEP},
+    {"02 M-103: reset of 1130h", BYTES(0xA0, 0x00, 0x01, 0x02, 0x30, 0x11), NK_RANGE_UNKNOWN, BYTES(0xBA, 0x00), KEEP},
     {"01: a demand", BYTES(0x40, 0x01, 0x10, 0x02, 0x34, 0x12), NK_ANSWERED, BYTES(0x00, 0x00),
      EDITS({WORDS, NK_DEMANDS + 1, 0x1234})},
     {"01: the demand read", BYTES(0x46, 0x01, 0x10, 0x00), NK_ANSWERED, BYTES(0x00, 0x02, 0x34, 0x12), KEEP},

@@ -147,11 +147,11 @@ fn takes(command: Command, count: usize) -> bool {
         Command::SetIoGroup => true,
         Command::GetParam => count == 1,
         Command::SetParam => count == 2,
-        Command::Reset => count == 0,
+        Command::Reset => count == 1,
     }
 }
 
-// Of these numbers the values that a command sends: GetParam and SetParam name an address first.
+// Of these numbers the values that a command sends: the commands on parameters name an address first.
 fn values_of(command: Command, numbers: Group) -> Group {
     match command {
         Command::GetParam => no_values(),
@@ -162,6 +162,7 @@ fn values_of(command: Command, numbers: Group) -> Group {
             third: 0,
             fourth: 0,
         },
+        Command::Reset => no_values(),
         _ => numbers,
     }
 }

@@ -4,8 +4,8 @@ use receive::Dialect;
 use tables::dialect;
 
 // The lines of the calls, as `help` writes them. A line that cannot be read is answered with those of its first word.
-pub const CALLS: [u8; 849] =
-    *b"probe CHANNEL CODE; restart; governor CHANNEL; datalink ROOM BYTES; lecom ROOM BYTES; love ROOM BYTES; lucid ROOM BYTES; receive DIALECT ROOM BYTES; quiet DIALECT; save ROOM; load BYTES; request change IA ADDRESS BYTES; request bits IA ADDRESS MASKS / STATES; step ROOM BYTES; ask lecom ROOM ADDRESS read CODE; ask lecom ROOM ADDRESS write CODE VALUE; ask love ROOM ADDRESS status; ask love ROOM ADDRESS read PLACE; ask love ROOM ADDRESS write PLACE VALUE; ask lucid ROOM getio CHANNEL TYPE; ask lucid ROOM getiogroup MASK TYPE; ask lucid ROOM setio CHANNEL TYPE VALUE; ask lucid ROOM setiogroup MASK TYPE VALUES; ask lucid ROOM getparam CHANNEL OPTION ADDRESS; ask lucid ROOM setparam CHANNEL OPTION ADDRESS VALUE; ask lucid ROOM reset CHANNEL OPTION; reply lecom BYTES; reply love BYTES; reply lucid BYTES; poke TABLE PLACE VALUE; peek TABLE; help";
+pub const CALLS: [u8; 857] =
+    *b"probe CHANNEL CODE; restart; governor CHANNEL; datalink ROOM BYTES; lecom ROOM BYTES; love ROOM BYTES; lucid ROOM BYTES; receive DIALECT ROOM BYTES; quiet DIALECT; save ROOM; load BYTES; request change IA ADDRESS BYTES; request bits IA ADDRESS MASKS / STATES; step ROOM BYTES; ask lecom ROOM ADDRESS read CODE; ask lecom ROOM ADDRESS write CODE VALUE; ask love ROOM ADDRESS status; ask love ROOM ADDRESS read PLACE; ask love ROOM ADDRESS write PLACE VALUE; ask lucid ROOM getio CHANNEL TYPE; ask lucid ROOM getiogroup MASK TYPE; ask lucid ROOM setio CHANNEL TYPE VALUE; ask lucid ROOM setiogroup MASK TYPE VALUES; ask lucid ROOM getparam CHANNEL OPTION ADDRESS; ask lucid ROOM setparam CHANNEL OPTION ADDRESS VALUE; ask lucid ROOM reset CHANNEL OPTION ADDRESS; reply lecom BYTES; reply love BYTES; reply lucid BYTES; poke TABLE PLACE VALUE; peek TABLE; help";
 
 // A call of an entry of the card: card_calls.rt.
 pub enum CardCall {

@@ -1,2 +1,3 @@
 pub mod Exchanges
 pub mod Rows
+pub mod Requests

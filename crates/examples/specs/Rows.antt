@@ -1,12 +1,7 @@
 -- Document 01, "Checked examples": P1 to P12, in the paper's order. Each starts from `startCard` of crates/card/specs/Start.antt.
-use Prim.Native.Nat.{ℕ}
 use mathlib.Core.List.{List, [], _∷_}
 use Rattle.card.specs.Numbers.{answered, done, checkCharacter, readOnly, probeFault}
-use Rattle.examples.specs.Exchanges.{Call, code, datalink, lecom, love, lucid, Line}
-
--- a line of an example
-abbrev pub line : Call → ℕ → List ℕ → Line
-line call number bytes = record { call = call; number = number; bytes = bytes }
+use Rattle.examples.specs.Exchanges.{code, datalink, lecom, love, lucid, Line, line}
 
 -- P1 7E E3 09 00 10 FC is accepted: the four codes, 255 each, and five bytes of zero
 abbrev pub p1 : List Line

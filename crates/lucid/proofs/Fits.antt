@@ -2,23 +2,25 @@
 use mathlib.Core.Path.{_≡_, sym, _∙_}
 use mathlib.Core.Bool.{Bool, true}
 use mathlib.Core.List.{List}
-use Prim.Native.Nat.{ℕ, zero, suc, _+_, _*_, _/_, _%_, _≤_, _<_}
+use Prim.{tt}
+use Prim.Native.Nat.{ℕ, zero, suc, _+_, _/_, _%_, _≤_, _<_}
 use native.Mathlib.Omega.{arith}
 use borrow.Author.Tests.{le-leb}
 use lib.Dec.{eqb}
 use lib.ListN.{getD, set, length-set}
 use Rattle.wire.specs.Choose.{choose}
 use Rattle.wire.proofs.Cases.{by-choice}
+use Rattle.wire.proofs.Sweep.{swept}
 use Rattle.card.specs.Layout.{Card, demandsAt, channels, parametersAt, parameterCount, savedParametersAt}
-use Rattle.card.specs.Fitness.{inSpan, inRange, fit, demandMost, cycleDefault, floorDefault}
+use Rattle.card.specs.Fitness.{inSpan, inRange, fit, demandMost}
 use Rattle.card.specs.Reply.{roomLeast}
 use Rattle.card.proofs.Facts.{fit-facts}
-use Rattle.card.proofs.Ranges.{at-demand, at-cycle, at-floor, parameter-copy, set-fit}
+use Rattle.card.proofs.Ranges.{at-demand, parameter-copy, set-fit}
 use Rattle.card.proofs.Fits.{IsFit, Good, shell-fit, words-reply-fit}
 use Rattle.lucid.specs.Form.{dataAt, demandSize, channelsFrom, numberAt}
 use Rattle.lucid.specs.Frame.{asked, valueRight}
 use Rattle.lucid.specs.Stages.{Sound}
-use Rattle.lucid.specs.Answer.{demanded, stored, reset, obeyed, lucidReply}
+use Rattle.lucid.specs.Answer.{demanded, stored, defaultOf, reset, obeyed, lucidReply}
 use Rattle.lucid.specs.declared.frame.Order.{Order}
 use Rattle.lucid.specs.declared.frame.Order.the-variants.{Silent, Refused, GetIo, SetIo, GetParam, SetParam, Reset}
 use Rattle.lucid.proofs.Frames.{asked-sound}
@@ -33,12 +35,10 @@ stored-good place saved value ws h r g =
     let once = good-set ws (parametersAt + place) value g r in
     by-choice Good saved _ _ (λ _. good-set _ (savedParametersAt + place) value once (parameter-copy place value h ∙ r)) (λ _. once)
 
-reset-good : (channel : ℕ) (saved : Bool) (ws : List ℕ) → channel < channels → Good ws → Good (reset channel saved ws)
-unfolding reset inSpan choose
-reset-good channel saved ws h g =
-    let cycle : valueRight (2 * channel) cycleDefault ≡ true = sym (at-cycle (parametersAt + 2 * channel) cycleDefault (omega arith) (omega arith) (omega arith)) in
-    let floor : valueRight (2 * channel + 1) floorDefault ≡ true = sym (at-floor (parametersAt + (2 * channel + 1)) floorDefault (omega arith) (omega arith) (λ n. omega arith)) in
-    stored-good (2 * channel + 1) saved floorDefault _ (omega arith) floor (stored-good (2 * channel) saved cycleDefault ws (omega arith) cycle g)
+-- a default is in its range, place by place
+default-right : (place : ℕ) → place < parameterCount → valueRight place (defaultOf place) ≡ true
+unfolding defaultOf inRange inSpan choose
+default-right place h = swept (λ n. valueRight n (defaultOf n)) parameterCount tt place h
 
 -- a frame is bytes
 abbrev pub Bytes : List ℕ → Type 0
@@ -60,14 +60,14 @@ demanded-good (suc n) k mask f at ws h b g =
     (λ _. demanded-good n (suc k) (mask / 2) f at ws (omega arith) b g)
 
 obeyed-good : (ws memory f : List ℕ) (order : Order) → Bytes f → Sound f order → Good ws → Good (obeyed ws memory f order .words)
-unfolding obeyed
+unfolding obeyed reset
 obeyed-good ws memory f (Silent number) b s g = g
 obeyed-good ws memory f (Refused number status) b s g = g
 obeyed-good ws memory f (GetIo valueType mask) b s g = g
 obeyed-good ws memory f (SetIo mask) b s g = demanded-good channels 0 mask f dataAt ws (omega arith) b g
 obeyed-good ws memory f (GetParam place) b s g = g
 obeyed-good ws memory f (SetParam place saved value) b s g = stored-good place saved value ws (s .0) (s .1) g
-obeyed-good ws memory f (Reset channel saved) b s g = reset-good channel saved ws s g
+obeyed-good ws memory f (Reset place saved) b s g = stored-good place saved (defaultOf place) ws s (default-right place s) g
 
 pub stays-fit : (card : Card) (room : ℕ) (f : List ℕ) → Bytes f → fit card ≡ true → IsFit (lucidReply card room f)
 unfolding lucidReply

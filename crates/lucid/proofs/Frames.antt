@@ -3,14 +3,13 @@ use mathlib.Core.Path.{_≡_, refl, sym, ap, _∙_, subst}
 use mathlib.Core.Bool.{Bool, true, false}
 use mathlib.Core.List.{List}
 use Prim.{tt}
-use Prim.Native.Nat.{ℕ, _+_, _*_, _<_}
+use Prim.Native.Nat.{ℕ, _+_, _*_, _≤_, _<_}
 use native.Mathlib.Omega.{arith}
 use borrow.Author.Tests.{ltb-true, eqb-true}
 use lib.Dec.{eqb}
 use lib.ListN.{length}
 use Rattle.wire.specs.Choose.{choose}
 use Rattle.wire.proofs.Cases.{by-choice}
-use Rattle.wire.proofs.Tests.{and-true}
 use Rattle.card.specs.Layout.{channels, parameterCount}
 use Rattle.lucid.specs.Form.{lengthRight, dataAt, valueAt, setParam, getParam, channelsOf, demand, demandSize, sizeOf}
 use Rattle.lucid.specs.Frame.{isGet, isSet, isReset, opcKnown, channelRight, typeWritable, maskOf, lenFor, addressIn, valueIn, placeOf, valueRight, asked, opcIn, p1In, p2In, lenIn}
@@ -19,34 +18,29 @@ use Rattle.lucid.specs.declared.frame.Order.{Order}
 use Rattle.lucid.specs.declared.frame.Order.the-variants.{Refused}
 
 module _ (p1 p2 : ℕ) (f : List ℕ) where
-  set-addressed : Sized setParam p1 p2 f → isReset setParam p2 ≡ false → Addressed setParam p1 f
+  set-addressed : Sized setParam p1 p2 f → Addressed setParam p1 p2 f
   unfolding lenFor choose
-  set-addressed s r =
-      let l = rw r at (s .measured) in
-      record { channel = ltb-true p1 channels (s .channel); address = omega arith; value = λ _. omega arith }
+  set-addressed s = record { channel = ltb-true p1 channels (s .channel); address = within; value = λ _ r. let l = rw r at (s .measured) in omega arith }
+    where
+      within : valueAt ≤ length f
+      within = rw (s .measured) (by-choice (λ (n : ℕ). valueAt ≤ dataAt + n) (isReset setParam p2) _ _ (λ _. omega arith) (λ _. omega arith))
 
-  get-addressed : Sized getParam p1 p2 f → Addressed getParam p1 f
+  get-addressed : Sized getParam p1 p2 f → Addressed getParam p1 p2 f
   unfolding lenFor choose
   get-addressed s =
       let l : length f ≡ valueAt = s .measured in
       record { channel = ltb-true p1 channels (s .channel); address = omega arith; value = λ n. absurd (n refl) }
 
 module _ (opc p1 p2 : ℕ) (f : List ℕ) (sized : Sized opc p1 p2 f) where
-  -- a command on parameters that resets nothing
-  pub addressed : isGet opc ≡ false → isSet opc ≡ false → isReset opc p2 ≡ false → Addressed opc p1 f
-  addressed g s r = by (eqb opc setParam) refl
+  -- a command on parameters
+  pub addressed : isGet opc ≡ false → isSet opc ≡ false → Addressed opc p1 p2 f
+  addressed g s = by (eqb opc setParam) refl
     where
-      by : (t : Bool) → eqb opc setParam ≡ t → Addressed opc p1 f
-      by true e =
-          subst (λ (o : ℕ). Sized o p1 p2 f → isReset o p2 ≡ false → Addressed o p1 f) (sym (eqb-true opc setParam e)) (set-addressed p1 p2 f) sized r
+      by : (t : Bool) → eqb opc setParam ≡ t → Addressed opc p1 p2 f
+      by true e = subst (λ (o : ℕ). Sized o p1 p2 f → Addressed o p1 p2 f) (sym (eqb-true opc setParam e)) (set-addressed p1 p2 f) sized
       by false e =
           let k : eqb opc getParam ≡ true = rw (g, s, e) at (sized .known) in
-          subst (λ (o : ℕ). Sized o p1 p2 f → Addressed o p1 f) (sym (eqb-true opc getParam k)) (get-addressed p1 p2 f) sized
-
-  -- a reset names a channel
-  reset-within : isReset opc p2 ≡ true → p1 < channels
-  reset-within r =
-      subst (λ (o : ℕ). channelRight o p1 ≡ true → p1 < channels) (sym (eqb-true opc setParam (and-true (eqb opc setParam) _ r .0))) (ltb-true p1 channels) (sized .channel)
+          subst (λ (o : ℕ). Sized o p1 p2 f → Addressed o p1 p2 f) (sym (eqb-true opc getParam k)) (get-addressed p1 p2 f) sized
 
   -- SetIo and SetIoGroup have two bytes for each channel
   set-length : typeWritable opc p2 ≡ true → isGet opc ≡ false → isSet opc ≡ true → length f ≡ dataAt + demandSize * length (channelsOf (maskOf opc p1))
@@ -70,15 +64,15 @@ module _ (f : List ℕ) where
       let inside = place-within p1 (addressIn f) h in
       or-refused _ _ _ _
       (λ _. by-choice (Sound f) (eqb opc getParam) _ _ (λ _. inside)
-      (λ _. or-refused (valueRight (placeOf p1 (addressIn f)) (valueIn f)) _ _ _ (λ r. (inside, r))))
+      (λ _. by-choice (Sound f) (isReset opc p2) _ _ (λ _. inside)
+      (λ _. or-refused (valueRight (placeOf p1 (addressIn f)) (valueIn f)) _ _ _ (λ r. (inside, r)))))
 
   command-sound : (opc p1 p2 : ℕ) → Sized opc p1 p2 f → typeWritable opc p2 ≡ true → Sound f (commandAsked opc p1 p2 f)
   unfolding commandAsked
   command-sound opc p1 p2 sized w =
       by-choice (Sound f) (isGet opc) _ _ (λ _. tt)
       (λ g. by-choice (Sound f) (isSet opc) _ _ (λ s. set-length opc p1 p2 f sized w g s)
-      (λ s. by-choice (Sound f) (isReset opc p2) _ _ (λ r. reset-within opc p1 p2 f sized r)
-      (λ r. parameter-sound opc p1 p2 (addressed opc p1 p2 f sized g s r .channel))))
+      (λ s. parameter-sound opc p1 p2 (addressed opc p1 p2 f sized g s .channel)))
 
   option-sound : (opc p1 p2 : ℕ) → opcKnown opc ≡ true → channelRight opc p1 ≡ true → length f ≡ dataAt + lenIn f → Sound f (optionAsked opc p1 p2 f)
   unfolding optionAsked

@@ -3,10 +3,10 @@
 use mathlib.Core.Path.{_≡_, refl, ap}
 use mathlib.Core.Bool.{Bool, true, false, not}
 use mathlib.Core.List.{List, [], _∷_}
-use Prim.Native.Nat.{ℕ, zero, suc, _+_, _*_, _/_, _%_, _^_, _<_}
+use Prim.Native.Nat.{ℕ, zero, suc, _+_, _*_, _/_, _%_, _^_, _≤_, _<_}
 use native.Mathlib.Nat.{add-zero, zero-add, not-suc-le-zero, le-of-suc-le-suc}
 use native.Mathlib.Omega.{arith}
-use borrow.Author.Tests.{eqb-false, not-true}
+use borrow.Author.Tests.{le-leb, eqb-false, not-true}
 use lib.Dec.{eqb, eqb→eq}
 use lib.ListN.{getD}
 use Rattle.wire.proofs.Tests.{and-true}
@@ -15,6 +15,7 @@ use Rattle.wire.proofs.Cases.{by-choice}
 use Rattle.wire.specs.Word.{minus, wordValues}
 use Rattle.card.specs.Numbers.{probeFault}
 use Rattle.card.specs.Layout.{Card, channels}
+use Rattle.card.specs.Fitness.{fit}
 use Rattle.card.specs.Probe.{faultCode, readingOf, tenthsOf}
 use Rattle.card.specs.Reply.{WordsReply, onWords, sent, shell, roomLeast, Keeps, leaving}
 use Rattle.card.specs.declared.probe.Reading.the-variants.{Fault}
@@ -35,7 +36,12 @@ obeyed-keeps card f (GetIo valueType mask) = record { kept = λ _. refl }
 obeyed-keeps card f (SetIo mask) = record { kept = λ h. let z : ⊥ = omega arith in absurd z }
 obeyed-keeps card f (GetParam place) = record { kept = λ _. refl }
 obeyed-keeps card f (SetParam place saved value) = record { kept = λ h. let z : ⊥ = omega arith in absurd z }
-obeyed-keeps card f (Reset channel saved) = record { kept = λ h. let z : ⊥ = omega arith in absurd z }
+obeyed-keeps card f (Reset place saved) = record { kept = λ h. let z : ⊥ = omega arith in absurd z }
+
+-- the entry on a fit card with room for the answer
+pub replied : (card : Card) (room : ℕ) (f : List ℕ) → fit card ≡ true → roomLeast ≤ room → lucidReply card room f ≡ onWords card (obeyed (card .words) (card .memory) f (asked f))
+unfolding lucidReply shell choose
+replied card room f h l = rw (h, le-leb roomLeast room l)
 
 -- "Numbers 2 to 14 change no table"
 pub keeps : (card : Card) (room : ℕ) (f : List ℕ) → Keeps card (lucidReply card room f)
@@ -76,7 +82,7 @@ order-fault ws memory f (GetIo valueType mask) channel h r code =
 order-fault ws memory f (SetIo mask) channel h r code = cc
 order-fault ws memory f (GetParam place) channel h r code = cc
 order-fault ws memory f (SetParam place saved value) channel h r code = cc
-order-fault ws memory f (Reset which saved) channel h r code = cc
+order-fault ws memory f (Reset place saved) channel h r code = cc
 
 -- the probe of a channel at fault, asked for alone or in a group: unless 12 or 11 comes first, the fault reply (9, D0h) and nothing else
 pub fault : (card : Card) (room : ℕ) (f : List ℕ) (channel : ℕ) → channel < channels → asksProbe f channel ≡ true → getD (card .memory) channel 0 ≡ faultCode
@@ -124,7 +130,7 @@ order-same ws memory memory′ f (GetIo valueType mask) same =
 order-same ws memory memory′ f (SetIo mask) same = refl
 order-same ws memory memory′ f (GetParam place) same = refl
 order-same ws memory memory′ f (SetParam place saved value) same = refl
-order-same ws memory memory′ f (Reset which saved) same = refl
+order-same ws memory memory′ f (Reset place saved) same = refl
 
 -- the reply depends on the codes of the probes asked for, and on no other byte of the memory
 pub asked-alone : (ws memory memory′ f : List ℕ) → ((channel : ℕ) → channel < channels → asksProbe f channel ≡ true → getD memory channel 0 ≡ getD memory′ channel 0)

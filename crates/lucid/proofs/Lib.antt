@@ -4,6 +4,8 @@ pub mod Frames
 pub mod Passing
 pub mod Writes
 pub mod Laws
+pub mod Resets
+pub mod Refuted
 pub mod Fits
 pub mod Probes
 pub mod Receiver

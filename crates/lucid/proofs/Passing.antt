@@ -26,7 +26,7 @@ Obeyed (GetIo valueType mask) = Unit {0}
 Obeyed (SetIo mask) = Unit {0}
 Obeyed (GetParam place) = Unit {0}
 Obeyed (SetParam place saved value) = Unit {0}
-Obeyed (Reset channel saved) = Unit {0}
+Obeyed (Reset place saved) = Unit {0}
 
 -- what a frame passed
 pub record Passed (f : List ℕ) : Type 0 where

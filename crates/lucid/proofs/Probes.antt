@@ -69,7 +69,7 @@ order-works ws memory f (GetIo valueType mask) channel r works =
 order-works ws memory f (SetIo mask) channel r works = ([], cc)
 order-works ws memory f (GetParam place) channel r works = ([], cc)
 order-works ws memory f (SetParam place saved value) channel r works = ([], cc)
-order-works ws memory f (Reset which saved) channel r works = ([], cc)
+order-works ws memory f (Reset place saved) channel r works = ([], cc)
 
 -- every probe asked for works: unless 12 or 11 comes first, 0 and OK with the temperatures
 pub works : (card : Card) (room : ℕ) (f : List ℕ) (channel : ℕ) → asksProbe f channel ≡ true → ((k : ℕ) → k < channels → asksProbe f k ≡ true → getD (card .memory) k 0 < faultCode)

@@ -1,4 +1,4 @@
--- What the card answers to a LucidControl frame, and what its words become. Document 01, "LucidControl".
+-- What the card answers to a LucidControl frame, and what its words become. Document 01, "LucidControl", and document 02, M-103.
 use Prim.Native.Nat.{ℕ, zero, suc, _+_, _*_, _/_, _%_}
 use mathlib.Core.Path.{_≡_}
 use mathlib.Core.Bool.{Bool, false, _&&_, not}
@@ -90,9 +90,13 @@ unfoldable pub stored : ℕ → Bool → ℕ → List ℕ → List ℕ
 stored place saved value ws =
     choose saved (set (set ws (parametersAt + place) value) (savedParametersAt + place) value) (set ws (parametersAt + place) value)
 
--- "Option 01h .. resets both parameters of the channel"
+-- a parameter's default: 1110h stands at even places, 1120h at odd ones
+unfoldable pub defaultOf : ℕ → ℕ
+defaultOf place = choose (eqb (place % parametersEach) 0) cycleDefault floorDefault
+
+-- document 02, M-103: option 01h "resets that one parameter; with 80h its saved copy too"
 unfoldable pub reset : ℕ → Bool → List ℕ → List ℕ
-reset channel saved ws = stored (parametersEach * channel + 1) saved floorDefault (stored (parametersEach * channel) saved cycleDefault ws)
+reset place saved ws = stored place saved (defaultOf place) ws
 
 -- what the card does with an order: what it answers, and the words that it leaves
 unfoldable pub obeyed : List ℕ → List ℕ → List ℕ → Order → WordsReply
@@ -102,7 +106,7 @@ obeyed ws memory f (GetIo valueType mask) = leaving ws (read (group (valueOf ws 
 obeyed ws memory f (SetIo mask) = leaving (demanded (channelsOf mask) f dataAt ws) done
 obeyed ws memory f (GetParam place) = leaving ws (told answered ok (little parameterSize (getD ws (parametersAt + place) 0)))
 obeyed ws memory f (SetParam place saved value) = leaving (stored place saved value ws) done
-obeyed ws memory f (Reset channel saved) = leaving (reset channel saved ws) done
+obeyed ws memory f (Reset place saved) = leaving (reset place saved ws) done
 
 -- the entry's whole meaning; room is the answer buffer's length
 unfoldable pub lucidReply : Card → ℕ → List ℕ → Reply
@@ -121,7 +125,7 @@ readsProbe (GetIo valueType mask) channel = not (eqb valueType demand) && named 
 readsProbe (SetIo mask) channel = false
 readsProbe (GetParam place) channel = false
 readsProbe (SetParam place saved value) channel = false
-readsProbe (Reset which saved) channel = false
+readsProbe (Reset place saved) channel = false
 
 -- a frame does
 unfoldable pub asksProbe : List ℕ → ℕ → Bool

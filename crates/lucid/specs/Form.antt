@@ -104,7 +104,7 @@ persistent = 0x80
 abbrev pub otherBits : ℕ
 otherBits = 0xFF - (default + persistent)
 
--- the data of SetParam and GetParam: an address; and of SetParam a value after it
+-- the data of SetParam and GetParam: an address; and of a SetParam that resets nothing a value after it
 abbrev pub cycleAddress : ℕ
 cycleAddress = 0x1110
 

@@ -1,5 +1,5 @@
--- What a LucidControl frame asks: document 01, "LucidControl", "Order". A line of `asked` is a test, and the number and the status if it
--- fails, or a command that has no further test. A test that a command has no use for passes.
+-- What a LucidControl frame asks: document 01, "LucidControl", "Order", and document 02, M-103. A line of `asked` is a test, and the number
+-- and the status if it fails, or a command that has no further test. A test that a command has no use for passes.
 use Prim.Native.Nat.{ℕ, _+_, _*_, _^_}
 use mathlib.Core.Bool.{Bool, _&&_, _||_, not}
 use mathlib.Core.List.{List}
@@ -85,14 +85,14 @@ optionRight opc p2 = not (isParam opc) || (eqb p2 0 || (eqb opc setParam && eqb 
 unfoldable pub maskOf : ℕ → ℕ → ℕ
 maskOf opc p1 = choose (isGroup opc) p1 (2 ^ p1)
 
--- "LEN is 0 for GetIo and GetIoGroup, the type's size for SetIo, that times the channels for SetIoGroup, 2 for GetParam, 6 for SetParam. ..
--- Option 01h takes LEN 0"
+-- "LEN is 0 for GetIo and GetIoGroup, the type's size for SetIo, that times the channels for SetIoGroup, 2 for GetParam, 6 for SetParam."
+-- Document 02, M-103: "option 01h takes LEN 2, the address alone"
 unfoldable pub lenFor : ℕ → ℕ → ℕ → ℕ
 lenFor opc p1 p2 =
     choose (isGet opc) 0
     (choose (isSet opc) (sizeOf p2 * length (channelsOf (maskOf opc p1)))
     (choose (eqb opc getParam) addressSize
-    (choose (isReset opc p2) 0
+    (choose (isReset opc p2) addressSize
     (addressSize + parameterSize))))
 
 -- the address and the value of a frame that has them
@@ -116,7 +116,8 @@ valueRight place value = inRange (parametersAt + place) value
 
 -- what a frame asks. "LucidControl 4 and 259. Outside these: 3, silent." "Order: LEN against slice (3, B0h); OPC (5, A0h); channel above 3 (6, B8h)
 -- or mask 0 or above 0Fh (6, B2h); type unknown (7, B6h), probe written (8, B6h), option other than bits 01h and 80h, or nonzero in GetParam
--- (7, B4h); LEN for the command (3, B0h); parameter address (6, BAh); value (7, C0h); fault (9, D0h)": the fault is found in answering
+-- (7, B4h); LEN for the command (3, B0h); parameter address (6, BAh); value (7, C0h); fault (9, D0h)": the fault is found in answering.
+-- Document 02, M-103: "LEN other than 2 with option 01h is 3, B0h; an unknown address is 6, BAh, in the old order"
 unfoldable pub asked : List ℕ → Order
 asked f =
     let opc = opcIn f in
@@ -134,8 +135,8 @@ asked f =
     (unless (eqb (lenIn f) (lenFor opc p1 p2)) frameForm invLength
     (choose (isGet opc) (GetIo p2 (maskOf opc p1))
     (choose (isSet opc) (SetIo (maskOf opc p1))
-    (choose (isReset opc p2) (Reset p1 (saves p2))
     (unless (addressKnown (addressIn f)) rangeUnknown invParam
     (choose (eqb opc getParam) (GetParam place)
+    (choose (isReset opc p2) (Reset place (saves p2))
     (unless (valueRight place (valueIn f)) valueOutside invData
     (SetParam place (saves p2) (valueIn f))))))))))))))))

@@ -3,3 +3,4 @@ pub mod Frame
 pub mod Stages
 pub mod Answer
 pub mod Receiver
+pub mod Resets

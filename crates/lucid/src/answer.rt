@@ -24,7 +24,7 @@ ghost use Rattle.card.specs.Layout.{channels, demandsAt, parameterCount, parame
 ghost use Rattle.card.specs.Reply.{roomLeast, GaveWords, Told};
 ghost use Rattle.lucid.specs.Form.{dataAt, channelsOf, demandSize, tenthsSize, hundredthsSize, parameterSize, valuesMost, ok, little};
 ghost use Rattle.lucid.specs.Stages.{Sound};
-ghost use Rattle.lucid.specs.Answer.{group, hundredthsOf, temperatureIn, valueOf, told, refused, read, demanded, stored, reset, obeyed, Grew};
+ghost use Rattle.lucid.specs.Answer.{group, hundredthsOf, temperatureIn, valueOf, told, refused, read, demanded, stored, defaultOf, reset, obeyed, Grew};
 
 // The most bytes of data that an answer has: four channels in type 41h.
 const VALUES: usize = CHANNELS * Lucid::HUNDREDTHS_SIZE as usize;
@@ -135,13 +135,22 @@ fn store(words: &mut [u32], place: usize, saved: bool, value: u32)
     }
 }
 
-// Sets both parameters of a channel to their defaults.
-fn reset(words: &mut [u32], channel: usize, saved: bool)
-    requires { ⌜ (length (now words) ≡ wordCount) × (channel < channels) ⌝ }
-    ensures { λ _. ⌜ now (words .exit) ≡ reset channel saved (now (words .entry)) ⌝ }
+// A parameter's default.
+fn default_of(place: usize) -> u32
+    ensures { λ r. ⌜ r ≡ defaultOf place ⌝ }
 {
-    store(words, PARAMETERS_EACH * channel, saved, CYCLE_DEFAULT);
-    store(words, PARAMETERS_EACH * channel + 1, saved, FLOOR_DEFAULT);
+    if place % PARAMETERS_EACH == 0 {
+        return CYCLE_DEFAULT;
+    }
+    FLOOR_DEFAULT
+}
+
+// Sets a parameter to its default, and its saved copy if that is asked.
+fn reset(words: &mut [u32], place: usize, saved: bool)
+    requires { ⌜ (length (now words) ≡ wordCount) × (place < parameterCount) ⌝ }
+    ensures { λ _. ⌜ now (words .exit) ≡ reset place saved (now (words .entry)) ⌝ }
+{
+    store(words, place, saved, default_of(place));
 }
 
 // Sets the demand of a channel.
@@ -227,8 +236,8 @@ pub(crate) fn obey(
             store(words, place as usize, saved, value);
             tell(out, ANSWERED, Lucid::OK)
         }
-        Order::Reset(channel, saved) => {
-            reset(words, channel as usize, saved);
+        Order::Reset(place, saved) => {
+            reset(words, place as usize, saved);
             tell(out, ANSWERED, Lucid::OK)
         }
     }

@@ -54,7 +54,7 @@ impl Lucid {
     pub const PERSISTENT: u8 = 0x80;
 
     pub const OTHER_BITS: u8 = 0xFF - (Lucid::DEFAULT + Lucid::PERSISTENT);
-    // The data of SetParam and GetParam: an address; and of SetParam a value after it.
+    // The data of SetParam and GetParam: an address; and of a SetParam that resets nothing a value after it.
     pub const CYCLE: u32 = 0x1110;
 
     pub const FLOOR: u32 = 0x1120;

@@ -42,7 +42,7 @@ pub enum Order {
     GetParam(u8),
     // A parameter's place, whether its saved copy is set too, and the value.
     SetParam(u8, bool, u32),
-    // A channel, and whether its saved copies are reset too.
+    // A parameter's place, and whether its saved copy is reset too.
     Reset(u8, bool),
 }
 
@@ -161,7 +161,7 @@ fn len_for(opc: u8, p1: u8, p2: u8) -> u8
         return Lucid::ADDRESS_SIZE;
     }
     if is_reset(opc, p2) {
-        return 0;
+        return Lucid::ADDRESS_SIZE;
     }
     Lucid::ADDRESS_SIZE + Lucid::PARAMETER_SIZE
 }
@@ -201,9 +201,9 @@ pub fn place_of(channel: u8, address: u32) -> u8
     EACH * channel + 1
 }
 
-// From the address on: SetParam and GetParam that reset nothing.
+// From the address on: SetParam and GetParam.
 fn parameter_asked(opc: u8, p1: u8, p2: u8, f: &[u8]) -> Order
-    requires { ⌜ Addressed opc p1 (now f) ⌝ }
+    requires { ⌜ Addressed opc p1 p2 (now f) ⌝ }
     ensures { λ r. ⌜ r ≡ parameterAsked opc p1 p2 (now (f .entry)) ⌝ }
 {
     let address = pair(f, Lucid::DATA);
@@ -213,6 +213,9 @@ fn parameter_asked(opc: u8, p1: u8, p2: u8, f: &[u8]) -> Order
     let place = place_of(p1, address);
     if opc == Lucid::GET_PARAM {
         return Order::GetParam(place);
+    }
+    if is_reset(opc, p2) {
+        return Order::Reset(place, is_saved(p2));
     }
     let value = quad(f, Lucid::VALUE);
     if !in_range(PARAMETERS + place as usize, value) {
@@ -231,9 +234,6 @@ fn command_asked(opc: u8, p1: u8, p2: u8, f: &[u8]) -> Order
     }
     if is_set(opc) {
         return Order::SetIo(mask_of(opc, p1));
-    }
-    if is_reset(opc, p2) {
-        return Order::Reset(p1, is_saved(p2));
     }
     parameter_asked(opc, p1, p2, f)
 }

@@ -1,4 +1,4 @@
-// The LucidControl dialect. Document 01, "LucidControl"; source document 002.
+// The LucidControl dialect. Document 01, "LucidControl"; document 02, M-103; source document 002.
 mod answer;
 pub mod collect;
 pub mod form;

@@ -6,7 +6,7 @@ use mathlib.Core.List.{List, [], _∷_}
 use native.Mathlib.Omega.{arith}
 use lib.ListN.{length, getD}
 use Rattle.card.specs.Layout.{channels}
-use Rattle.lucid.specs.Form.{getIo, getIoGroup, setIo, setIoGroup, setParam, getParam, demandSize, little}
+use Rattle.lucid.specs.Form.{getIo, getIoGroup, setIo, setIoGroup, setParam, getParam, demandSize, addressSize, little}
 use Rattle.lucid_master.specs.Request.{askingOf, askable, opcOf, demandBytes, dataOf, made}
 use Rattle.lucid_master.specs.Stages.{madeMost}
 use Rattle.lucid_master.specs.declared.request.Command.{Command}
@@ -36,7 +36,7 @@ module _ (q : Request) (values : List ℕ) where
   unfolding made opcOf dataOf
   made-set-group e = rw e
 
-  pub made-get-param : q .command ≡ GetParam → made (askingOf q values) ≡ framed getParam (dataOf GetParam (q .address) [])
+  pub made-get-param : q .command ≡ GetParam → made (askingOf q values) ≡ framed getParam (little addressSize (q .address))
   unfolding made opcOf dataOf
   made-get-param e = rw e
 
@@ -44,7 +44,7 @@ module _ (q : Request) (values : List ℕ) where
   unfolding made opcOf dataOf
   made-set-param e = rw e
 
-  pub made-reset : q .command ≡ Reset → made (askingOf q values) ≡ framed setParam []
+  pub made-reset : q .command ≡ Reset → made (askingOf q values) ≡ framed setParam (little addressSize (q .address))
   unfolding made opcOf dataOf
   made-reset e = rw e
 

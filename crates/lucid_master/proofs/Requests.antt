@@ -147,6 +147,6 @@ module _ (q : Request) (values : List ℕ) where
   ask-set-param e = rw e
 
   pub ask-reset : q .command ≡ Reset
-      → askable (askingOf q values) ≡ (channelRight (q .p1) && ((eqb (q .p2) default || eqb (q .p2) (default + persistent)) && eqb (length values) 0))
+      → askable (askingOf q values) ≡ (channelRight (q .p1) && ((eqb (q .p2) default || eqb (q .p2) (default + persistent)) && (addressKnown (q .address) && eqb (length values) 0)))
   unfolding askable p1Right p2Right addressRight countOf valuesRight
   ask-reset e = rw (e, and-true-right (eqb (length values) 0))

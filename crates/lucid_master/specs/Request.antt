@@ -1,4 +1,4 @@
--- What LucidControl's master may ask, and the frame that it makes. Document 02, M-102, with document 01, "LucidControl": OPC, P1, P2, LEN, data.
+-- What LucidControl's master may ask, and the frame that it makes. Document 02, M-102 and M-103, with document 01, "LucidControl": OPC, P1, P2, LEN, data.
 -- "A request names its command, so GetIo and a group of one channel are two requests."
 use Prim.Native.Nat.{ℕ, _+_}
 use mathlib.Core.Bool.{Bool, true, _&&_, _||_}
@@ -61,7 +61,7 @@ p2Right GetParam p2 = eqb p2 0
 p2Right SetParam p2 = eqb p2 0 || eqb p2 persistent
 p2Right Reset p2 = eqb p2 default || eqb p2 (default + persistent)
 
--- GetParam and SetParam name a parameter's address; of any other request it is not looked at
+-- a request on a parameter names its address; of any other it is not looked at
 unfoldable pub addressRight : Command → ℕ → Bool
 addressRight GetIo address = true
 addressRight GetIoGroup address = true
@@ -69,7 +69,7 @@ addressRight SetIo address = true
 addressRight SetIoGroup address = true
 addressRight GetParam address = addressKnown address
 addressRight SetParam address = addressKnown address
-addressRight Reset address = true
+addressRight Reset address = addressKnown address
 
 -- how many values a request sends: "another number of them than MASK names is 7"
 unfoldable pub countOf : Command → ℕ → ℕ
@@ -110,8 +110,8 @@ unfoldable pub demandBytes : List ℕ → List ℕ
 demandBytes [] = []
 demandBytes (value ∷ values) = little demandSize value ++ demandBytes values
 
--- "LEN is 0 for GetIo and GetIoGroup, the type's size for SetIo, that times the channels for SetIoGroup, 2 for GetParam, 6 for SetParam. ..
--- Option 01h takes LEN 0"
+-- "LEN is 0 for GetIo and GetIoGroup, the type's size for SetIo, that times the channels for SetIoGroup, 2 for GetParam, 6 for SetParam."
+-- Document 02, M-103: "option 01h takes LEN 2, the address alone"
 unfoldable pub dataOf : Command → ℕ → List ℕ → List ℕ
 dataOf GetIo address values = []
 dataOf GetIoGroup address values = []
@@ -119,7 +119,7 @@ dataOf SetIo address values = demandBytes values
 dataOf SetIoGroup address values = demandBytes values
 dataOf GetParam address values = little addressSize address
 dataOf SetParam address values = little addressSize address ++ little parameterSize (getD values 0 0)
-dataOf Reset address values = []
+dataOf Reset address values = little addressSize address
 
 -- the frame of a request: OPC, P1, P2, LEN, data
 unfoldable pub made : Asking → List ℕ

@@ -13,10 +13,10 @@ ghost use Prim.Native.Nat.{_+_, _*_, _≤_};
 ghost use lib.ListN.{length};
 ghost use Rattle.wire.specs.Buffer.{put};
 ghost use Rattle.card.specs.Reply.{Wrote};
-ghost use Rattle.lucid.specs.Form.{dataAt, demandSize, pairSize, getParam, setParam, little};
+ghost use Rattle.lucid.specs.Form.{dataAt, demandSize, pairSize, addressSize, setParam, little};
 ghost use Rattle.lucid_master.specs.Request.{askingOf, askable, demandBytes, dataOf, made};
 ghost use Rattle.lucid_master.specs.Stages.{madeMost, Headed};
-ghost use Rattle.lucid_master.specs.declared.request.Command.the-variants.{GetParam, SetParam};
+ghost use Rattle.lucid_master.specs.declared.request.Command.the-variants.{SetParam};
 
 // The longest frame: four demands.
 pub(crate) const MADE_MOST: usize = Lucid::DATA + CHANNELS * Lucid::DEMAND_SIZE as usize;
@@ -77,14 +77,14 @@ fn put_set(out: &mut [u8], opc: u8, request: Request, values: &[u32]) -> usize
     Lucid::DATA + len
 }
 
-// Writes a GetParam.
-fn put_get_param(out: &mut [u8], request: Request) -> usize
+// Writes a frame with the address alone.
+fn put_addressed(out: &mut [u8], opc: u8, request: Request) -> usize
     requires { ⌜ Headed request × (madeMost ≤ length (now out)) ⌝ }
     ensures { λ r.
-        let bytes = dataOf GetParam (request .address) [] in
-        ⌜ Wrote (getParam ∷ request .p1 ∷ request .p2 ∷ length bytes ∷ bytes) (now (out .entry)) r (now (out .exit)) ⌝ }
+        let bytes = little addressSize (request .address) in
+        ⌜ Wrote (opc ∷ request .p1 ∷ request .p2 ∷ length bytes ∷ bytes) (now (out .entry)) r (now (out .exit)) ⌝ }
 {
-    put_head(out, Lucid::GET_PARAM, request, Lucid::ADDRESS_SIZE);
+    put_head(out, opc, request, Lucid::ADDRESS_SIZE);
     put_pair(out, Lucid::DATA, request.address);
     Lucid::VALUE
 }
@@ -119,8 +119,8 @@ pub(crate) fn put_frame(out: &mut [u8], request: Request, values: &[u32]) -> usi
         Command::GetIoGroup => put_bare(out, Lucid::GET_IO_GROUP, request),
         Command::SetIo => put_set(out, Lucid::SET_IO, request, values),
         Command::SetIoGroup => put_set(out, Lucid::SET_IO_GROUP, request, values),
-        Command::GetParam => put_get_param(out, request),
+        Command::GetParam => put_addressed(out, Lucid::GET_PARAM, request),
         Command::SetParam => put_set_param(out, request, values[0]),
-        Command::Reset => put_bare(out, Lucid::SET_PARAM, request),
+        Command::Reset => put_addressed(out, Lucid::SET_PARAM, request),
     }
 }

@@ -10,10 +10,11 @@ ghost use mathlib.Core.Bool.{_&&_};
 ghost use lib.Dec.{eqb};
 ghost use lib.ListN.{length};
 ghost use Rattle.lucid.specs.Form.{demand};
+ghost use Rattle.lucid.specs.Frame.{addressKnown};
 ghost use Rattle.lucid_master.specs.Request.{askingOf, channelRight, maskRight, typeKnown, allDemands, askable};
 ghost use Rattle.lucid_master.specs.declared.request.Command.the-variants.{SetIoGroup, SetParam};
 
-// The options of a reset, without and with the saved copies.
+// The options of a reset, without and with the saved copy.
 const RESET: u32 = Lucid::DEFAULT as u32;
 
 const RESET_SAVED: u32 = Lucid::DEFAULT as u32 + Lucid::PERSISTENT as u32;
@@ -74,6 +75,13 @@ fn get_right(p2: u32, values: &[u32]) -> bool
     ensures { λ r. ⌜ r ≡ (typeKnown p2 && eqb (length (now (values .entry))) 0) ⌝ }
 {
     type_known(p2) & (values.len() == 0)
+}
+
+// Whether address and values of a request with the address alone are right.
+fn addressed_right(address: u32, values: &[u32]) -> bool
+    ensures { λ r. ⌜ r ≡ (addressKnown address && eqb (length (now (values .entry))) 0) ⌝ }
+{
+    frame::address_known(address) & (values.len() == 0)
 }
 
 // Whether type and values of a request to set so many demands are right.
@@ -137,13 +145,12 @@ pub(crate) fn is_askable(request: Request, values: &[u32]) -> bool
         Command::SetIo => channel_right(p1) & set_right(p2, 1, values),
         Command::SetIoGroup => group_set_right(request, values),
         Command::GetParam => {
-            let known = frame::address_known(request.address) & (values.len() == 0);
-            channel_right(p1) & ((p2 == 0) & known)
+            channel_right(p1) & ((p2 == 0) & addressed_right(request.address, values))
         }
         Command::SetParam => set_param_right(request, values),
         Command::Reset => {
             let option = (p2 == RESET) | (p2 == RESET_SAVED);
-            channel_right(p1) & (option & (values.len() == 0))
+            channel_right(p1) & (option & addressed_right(request.address, values))
         }
     }
 }

@@ -4,14 +4,14 @@ use mathlib.Core.Path.{_≡_, refl, ap, _∙_}
 use mathlib.Core.Bool.{true}
 use mathlib.Core.List.{List, [], _∷_, append-nil}
 use native.Mathlib.Omega.{arith}
-use borrow.Author.Tests.{ltb-true, le-leb}
+use borrow.Author.Tests.{ltb-true}
 use lib.ListN.{length, getD}
 use Rattle.wire.specs.Choose.{choose}
 use Rattle.wire.specs.Buffer.{same}
 use Rattle.wire.specs.Word.{wordValues}
 use Rattle.card.specs.Layout.{Card, channels, parametersAt}
 use Rattle.card.specs.Fitness.{inRange, fit}
-use Rattle.card.specs.Reply.{Reply, onWords, shell, roomLeast}
+use Rattle.card.specs.Reply.{Reply, onWords, roomLeast}
 use Rattle.card.proofs.Facts.{fit-facts}
 use Rattle.card.proofs.Ranges.{words-at}
 use Rattle.lucid.specs.Form.{channelsOf, parameterSize, ok, little}
@@ -19,7 +19,7 @@ use Rattle.lucid.specs.Frame.{placeOf, asked}
 use Rattle.lucid.specs.Answer.{Values, Held, Failed, joined, group, read, obeyed, lucidReply}
 use Rattle.lucid.specs.declared.frame.Order.{Order}
 use Rattle.lucid.proofs.Frames.{place-within}
-use Rattle.lucid.proofs.Laws.{one-channel}
+use Rattle.lucid.proofs.Laws.{replied, one-channel}
 use Rattle.lucid.proofs.Numbers.{number-little}
 use Rattle.asking.specs.Hearing.Hearing.{Gives}
 use Rattle.asking.specs.Claims.{Real, Askable, Hears}
@@ -31,11 +31,6 @@ use Rattle.lucid_master.proofs.Requests.{Parts, parts}
 use Rattle.masters.specs.Lucid.{Asked, askedIn, orderOf, askedOf, wordIn, saidBy, answerTo, answerOf, lucidMaster}
 use Rattle.masters.proofs.LucidMeans.{asking, means-of, first-word}
 use Rattle.masters.proofs.LucidValues.{bytesOf, group-bytes, Said, heard-held, word-said, group-said}
-
--- the entry on a fit card with room for the answer
-pub replied : (card : Card) (room : ℕ) (f : List ℕ) → fit card ≡ true → roomLeast ≤ room → lucidReply card room f ≡ onWords card (obeyed (card .words) (card .memory) f (asked f))
-unfolding lucidReply shell choose
-replied card room f h l = rw (h, le-leb roomLeast room l)
 
 -- a group of one channel
 pub group-one : (value : ℕ → Values) (channel : ℕ) → group value (channel ∷ []) ≡ value channel

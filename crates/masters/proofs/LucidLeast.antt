@@ -171,10 +171,10 @@ module _ (f : List ℕ) (bytes : Below byteValues f) where
     set-param-named : (place : ℕ) (saved : Bool) (value : ℕ) → commandAsked setParam (p1In f) (p2In f) f ≡ SetParamOrder place saved value → SetsParam place saved value
     unfolding commandAsked parameterAsked choose
     set-param-named place saved value =
-        by-choice P (isReset setParam (p2In f)) _ _ (λ _ e. apart (cc))
-        (λ s. by-choice P (addressKnown (addressIn f)) _ _
-        (λ k. by-choice P (valueRight (placeOf (p1In f) (addressIn f)) (valueIn f)) _ _ (λ _ e. record { stays = s; known = k; named = cc; kept = cc; given = cc }) (λ _ e. apart (cc)))
-        (λ _ e. apart (cc)))
+        by-choice P (addressKnown (addressIn f)) _ _
+        (λ k. by-choice P (isReset setParam (p2In f)) _ _ (λ _ e. apart (cc))
+        (λ s. by-choice P (valueRight (placeOf (p1In f) (addressIn f)) (valueIn f)) _ _ (λ _ e. record { stays = s; known = k; named = cc; kept = cc; given = cc }) (λ _ e. apart (cc))))
+        (λ _ e. apart (cc))
       where
         P : Order → Type 0
         P o = o ≡ SetParamOrder place saved value → SetsParam place saved value
@@ -198,33 +198,37 @@ module _ (f : List ℕ) (bytes : Below byteValues f) where
         framed-as setParam p1 p2 (little addressSize address ++ little parameterSize (getD values 0 0)) f p c (s .0) option all
 
     -- what is known of a frame that resets
-    record Resets (channel : ℕ) (saved : Bool) : Type 0 where
+    record Resets (place : ℕ) (saved : Bool) : Type 0 where
       resets : isReset setParam (p2In f) ≡ true
-      named : p1In f ≡ channel
+      known : addressKnown (addressIn f) ≡ true
+      named : placeOf (p1In f) (addressIn f) ≡ place
       kept : saves (p2In f) ≡ saved
 
     -- its order says so
-    reset-named : (channel : ℕ) (saved : Bool) → commandAsked setParam (p1In f) (p2In f) f ≡ ResetOrder channel saved → Resets channel saved
+    reset-named : (place : ℕ) (saved : Bool) → commandAsked setParam (p1In f) (p2In f) f ≡ ResetOrder place saved → Resets place saved
     unfolding commandAsked parameterAsked choose
-    reset-named channel saved =
-        by-choice P (isReset setParam (p2In f)) _ _ (λ r e. record { resets = r; named = cc; kept = cc })
-        (λ _. by-choice P (addressKnown (addressIn f)) _ _
-        (λ _. by-choice P (valueRight (placeOf (p1In f) (addressIn f)) (valueIn f)) _ _ (λ _ e. apart (cc)) (λ _ e. apart (cc)))
-        (λ _ e. apart (cc)))
+    reset-named place saved =
+        by-choice P (addressKnown (addressIn f)) _ _
+        (λ k. by-choice P (isReset setParam (p2In f)) _ _ (λ r e. record { resets = r; known = k; named = cc; kept = cc })
+        (λ _. by-choice P (valueRight (placeOf (p1In f) (addressIn f)) (valueIn f)) _ _ (λ _ e. apart (cc)) (λ _ e. apart (cc))))
+        (λ _ e. apart (cc))
       where
         P : Order → Type 0
-        P o = o ≡ ResetOrder channel saved → Resets channel saved
+        P o = o ≡ ResetOrder place saved → Resets place saved
 
     -- Reset
-    only-reset : Parts Reset p1 p2 address values → opcIn f ≡ setParam → asked f ≡ ResetOrder p1 (eqb p2 (default + persistent)) → f ≡ made (asking Reset p1 p2 address values)
-    unfolding made opcOf dataOf p2Right lenFor optionOf choose
+    only-reset : Parts Reset p1 p2 address values → opcIn f ≡ setParam → asked f ≡ ResetOrder (placeOf p1 address) (eqb p2 (default + persistent))
+        → f ≡ made (asking Reset p1 p2 address values)
+    unfolding made opcOf dataOf p2Right addressRight lenFor little optionOf choose
     only-reset q c e =
         let p = passed f (subst Obeyed (sym e) tt) in
-        let n = reset-named p1 (eqb p2 (default + persistent)) (rw c at (sym (p .order) ∙ e)) in
+        let n = reset-named (placeOf p1 address) (eqb p2 (default + persistent)) (rw c at (sym (p .order) ∙ e)) in
         let mine : p2 ≡ optionOf true (eqb p2 (default + persistent)) = by-two (λ x. x ≡ optionOf true (eqb x (default + persistent))) default (default + persistent) refl refl p2 (q .second) in
         let option : p2In f ≡ p2 = option-known (p2In f) (bytes p2At) (rw c at (p .option)) ∙ rw (n .resets, n .kept) (sym mine) in
-        let len : lenIn f ≡ 0 = rw (c, n .resets) at (p .measured) in
-        framed-as setParam p1 p2 [] f p c (n .named) option (no-data (omega (arith, p .sized)))
+        let s = place-same (p1In f) p1 (addressIn f) address (n .known) (q .known) (n .named) in
+        let len : lenIn f ≡ addressSize = rw (c, n .resets) at (p .measured) in
+        let all = last-bytes addressSize dataAt (omega (arith, p .sized)) ∙ ap (little addressSize) (s .1) in
+        framed-as setParam p1 p2 (little addressSize address) f p c (s .0) option all
 
   -- whatever the command
   only-of : (command : Command) (p1 p2 address : ℕ) (values : List ℕ) → Parts command p1 p2 address values → opcIn f ≡ opcOf command → asked f ≡ orderOf command p1 p2 address values

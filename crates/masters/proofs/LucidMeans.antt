@@ -110,12 +110,14 @@ module _ (p1 option address : ℕ) (values : List ℕ) where
       asked-as _ (SetParamOrder (placeOf p1 address) (eqb option persistent) value)
       (asked-framed setParam p1 option bytes (omega arith) refl channel refl refl refl right (rw stays) ∙ rw (stays, named, known, given, inside, saved))
 
-  -- and one that resets both
-  reset-asked : isReset setParam option ≡ true → optionRight setParam option ≡ true → saves option ≡ eqb option (default + persistent) → ltb p1 channels ≡ true
+  -- and one that resets it
+  reset-asked : isReset setParam option ≡ true → optionRight setParam option ≡ true → saves option ≡ eqb option (default + persistent) → ltb p1 channels ≡ true → addressKnown address ≡ true
       → askedIn (made (asking Reset p1 option address values)) ≡ askedOf (asking Reset p1 option address values)
-  unfolding made opcOf dataOf askedOf orderOf demandsOf demandsIn commandAsked lenFor choose
-  reset-asked resets right saved channel =
-      asked-as _ (ResetOrder p1 (eqb option (default + persistent))) (asked-framed setParam p1 option [] (omega arith) refl channel refl refl refl right (rw resets) ∙ rw (resets, saved))
+  unfolding made opcOf dataOf askedOf orderOf demandsOf demandsIn commandAsked parameterAsked lenFor little choose
+  reset-asked resets right saved channel known =
+      let named = address-read setParam p1 option addressSize address [] known in
+      asked-as _ (ResetOrder (placeOf p1 address) (eqb option (default + persistent)))
+      (asked-framed setParam p1 option (little addressSize address) (omega arith) refl channel refl refl refl right (rw resets) ∙ rw (named, known, resets, saved))
 
 -- a made frame, whatever its command
 pub means-of : (command : Command) (p1 p2 address : ℕ) (values : List ℕ) → Parts command p1 p2 address values → getD values 0 0 < wordValues
@@ -133,8 +135,8 @@ means-of SetParam p1 p2 address values p w =
     p2 (p .second)
 means-of Reset p1 p2 address values p w =
     by-two (λ x. askedIn (made (asking Reset p1 x address values)) ≡ askedOf (asking Reset p1 x address values)) default (default + persistent)
-    (reset-asked p1 default address values refl refl refl (p .first))
-    (reset-asked p1 (default + persistent) address values refl refl refl (p .first))
+    (reset-asked p1 default address values refl refl refl (p .first) (p .known))
+    (reset-asked p1 (default + persistent) address values refl refl refl (p .first) (p .known))
     p2 (p .second)
 
 -- the place of the first value among a request's numbers

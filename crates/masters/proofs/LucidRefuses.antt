@@ -25,6 +25,7 @@ use Rattle.lucid.specs.declared.frame.Order.{Order}
 use Rattle.lucid.specs.declared.frame.Order.the-variants.{Silent, Refused as RefusedOrder, GetIo as GetOrder, SetIo as SetOrder}
 use Rattle.lucid.specs.declared.frame.Order.the-variants.{GetParam as GetParamOrder, SetParam as SetParamOrder, Reset as ResetOrder}
 use Rattle.lucid.proofs.Computed as lucid
+use Rattle.lucid.proofs.Laws.{replied}
 use Rattle.asking.specs.Hearing.{Hearing, isSaid}
 use Rattle.asking.specs.Hearing.Hearing.{Fault, Refused}
 use Rattle.asking.specs.Claims.{Refuses}
@@ -33,7 +34,6 @@ use Rattle.lucid_master.specs.Request.{Asking}
 use Rattle.lucid_master.specs.Heard.{isStatus, heard}
 use Rattle.lucid_master.proofs.Requests.{one-of}
 use Rattle.masters.specs.Lucid.{refusalIn, lucidMaster}
-use Rattle.masters.proofs.LucidHears.{replied}
 
 -- a status is one of eight
 by-status : (P : ℕ → Type 0) → P noSupport → P invLength → P invP1 → P invP2 → P invValue → P invChannel → P invParam → P invData → (s : ℕ) → isStatus s ≡ true → P s
@@ -56,7 +56,7 @@ Known (GetOrder valueType mask) = Unit {0}
 Known (SetOrder mask) = Unit {0}
 Known (GetParamOrder place) = Unit {0}
 Known (SetParamOrder place saved value) = Unit {0}
-Known (ResetOrder channel saved) = Unit {0}
+Known (ResetOrder place saved) = Unit {0}
 
 -- a test, of which the other way is such a refusal; and one of which both ways are none or such
 or-known : (t : Bool) (order : Order) (number status : ℕ) → isStatus status ≡ true → Known order → Known (choose t order (RefusedOrder number status))
@@ -71,7 +71,7 @@ unfolding asked isStatus
 known f =
     either _ _ _
     (or-known _ _ _ _ refl (or-known _ _ _ _ refl (or-known _ _ _ _ refl (or-known _ _ _ _ refl (or-known _ _ _ _ refl (or-known _ _ _ _ refl (or-known _ _ _ _ refl (or-known _ _ _ _ refl
-    (either _ _ _ tt (either _ _ _ tt (either _ _ _ tt (or-known _ _ _ _ refl (either _ _ _ tt (or-known _ _ _ _ refl tt))))))))))))))
+    (either _ _ _ tt (either _ _ _ tt (or-known _ _ _ _ refl (either _ _ _ tt (either _ _ _ tt (or-known _ _ _ _ refl tt))))))))))))))
     tt
 
 -- a refusal's bytes are heard as what they say
@@ -95,7 +95,7 @@ order-heard q ws memory f (GetOrder valueType mask) k h some = read-heard q (gro
 order-heard q ws memory f (SetOrder mask) k h some = let z : ⊥ = omega arith in absurd z
 order-heard q ws memory f (GetParamOrder place) k h some = let z : ⊥ = omega arith in absurd z
 order-heard q ws memory f (SetParamOrder place saved value) k h some = let z : ⊥ = omega arith in absurd z
-order-heard q ws memory f (ResetOrder channel saved) k h some = let z : ⊥ = omega arith in absurd z
+order-heard q ws memory f (ResetOrder place saved) k h some = let z : ⊥ = omega arith in absurd z
 
 -- a refusal that document 01 has is heard
 pub refusal-said : (q : Asking) (h : Hearing) (r : List ℕ) → Refuses lucidMaster q h r → (isSaid h ≡ true) × (heard q r ≡ h)

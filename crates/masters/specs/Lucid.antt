@@ -43,7 +43,7 @@ demandsIn (GetOrder valueType mask) f = []
 demandsIn (SetOrder mask) f = demandsFrom (length (channelsOf mask)) f dataAt
 demandsIn (GetParamOrder place) f = []
 demandsIn (SetParamOrder place saved value) f = []
-demandsIn (ResetOrder channel saved) f = []
+demandsIn (ResetOrder place saved) f = []
 
 -- what a frame asks
 unfoldable pub askedIn : List ℕ → Asked
@@ -57,7 +57,7 @@ orderOf SetIo p1 p2 address values = SetOrder (2 ^ p1)
 orderOf SetIoGroup p1 p2 address values = SetOrder p1
 orderOf GetParam p1 p2 address values = GetParamOrder (placeOf p1 address)
 orderOf SetParam p1 p2 address values = SetParamOrder (placeOf p1 address) (eqb p2 persistent) (getD values 0 0)
-orderOf Reset p1 p2 address values = ResetOrder p1 (eqb p2 (default + persistent))
+orderOf Reset p1 p2 address values = ResetOrder (placeOf p1 address) (eqb p2 (default + persistent))
 
 -- the demands that it is to set
 unfoldable pub demandsOf : Command → List ℕ → List ℕ

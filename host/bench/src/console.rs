@@ -170,7 +170,11 @@ fn ask_lucid(request: &lucid::Request) -> String {
             address,
             value,
         } => format!("setparam {channel} {option} {address} {value}"),
-        Reset { channel, option } => format!("reset {channel} {option}"),
+        Reset {
+            channel,
+            option,
+            address,
+        } => format!("reset {channel} {option} {address}"),
     };
     format!("ask lucid {ROOM} {rest}")
 }

@@ -295,7 +295,7 @@ fn dialects() -> Vec<Group> {
                     lucid(0xA0, 0, 0x80, &[0x10, 0x11, 0xB0, 0x71, 0x0B, 0]),
                 ),
                 ("set parameter 1120h", lucid(0xA0, 2, 0x00, &[0x20, 0x11, 1, 2, 0, 0])),
-                ("reset, saved", lucid(0xA0, 3, 0x81, &[])),
+                ("reset, saved", lucid(0xA0, 3, 0x81, &[0x10, 0x11])),
                 ("get parameter", lucid(0xA2, 0, 0, &[0x10, 0x11])),
                 ("channel 4", lucid(0x46, 4, 0x40, &[])),
                 ("unknown command", lucid(0x52, 0, 0, &[])),

@@ -382,6 +382,7 @@ fn lucid_row() -> Vec<Case> {
     let reset = Lucid::Reset {
         channel: 3,
         option: 0x81,
+        address: CYCLE,
     };
     let channel_4 = Lucid::GetIo {
         channel: 4,
@@ -494,10 +495,14 @@ fn lucid_commands() -> Vec<Case> {
                 };
                 both(format!("SetParam {channel} {address:X} {value}"), request, Vec::new());
             }
-        }
-        for option in [0x00, 0x01, 0x80, 0x81] {
-            let request = Lucid::Reset { channel, option };
-            both(format!("Reset {channel} {option:02X}"), request, Vec::new());
+            for option in [0x00, 0x01, 0x80, 0x81] {
+                let request = Lucid::Reset {
+                    channel,
+                    option,
+                    address,
+                };
+                both(format!("Reset {channel} {option:02X} {address:X}"), request, Vec::new());
+            }
         }
     }
     cases

@@ -74,10 +74,10 @@ impl From<lucid::Request<'static>> for LucidQuestion {
             SetIoGroup { mask, value_type, .. } => (SET_IO_GROUP, mask, value_type),
             GetParam { channel, option, .. } => (GET_PARAM, channel, option),
             SetParam { channel, option, .. } => (SET_PARAM, channel, option),
-            Reset { channel, option } => (RESET, channel, option),
+            Reset { channel, option, .. } => (RESET, channel, option),
         };
         let address = match second {
-            GetParam { address, .. } | SetParam { address, .. } => address,
+            GetParam { address, .. } | SetParam { address, .. } | Reset { address, .. } => address,
             _ => 0,
         };
         let values = match second {
@@ -115,7 +115,10 @@ impl Questions {
             address: 0,
             order: love::Order::Status,
         };
-        let lucid = lucid::Request::Reset { channel: 0, option: 0 };
+        let lucid = lucid::Request::GetIo {
+            channel: 0,
+            value_type: 0,
+        };
         Self {
             lecom: lecom.into(),
             love: love.into(),

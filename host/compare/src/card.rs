@@ -50,6 +50,8 @@ pub const LOVE_RANGE: (i64, i64) = (-400, 870);
 pub const DEMAND_RANGE: (i64, i64) = (0, 65_535);
 /// The lowest and highest value of the LucidControl parameters 1110h and 1120h.
 pub const PARAMETER_RANGES: [(i64, i64); 2] = [(1_000, 60_000_000), (0, 65_535)];
+/// The defaults of the LucidControl parameters 1110h and 1120h.
+pub const PARAMETER_DEFAULTS: [i64; 2] = [1_000_000, 0];
 
 /// Probe codes worth a look: both ends, a degree below zero, zero, five degrees, and the fault.
 pub const TELLING_CODES: [u8; 7] = [0, 1, 78, 80, 90, 254, 255];

@@ -120,7 +120,7 @@ const CALLS: &[Call] = &[
             "ask lucid ROOM setiogroup MASK TYPE VALUES",
             "ask lucid ROOM getparam CHANNEL OPTION ADDRESS",
             "ask lucid ROOM setparam CHANNEL OPTION ADDRESS VALUE",
-            "ask lucid ROOM reset CHANNEL OPTION",
+            "ask lucid ROOM reset CHANNEL OPTION ADDRESS",
         ],
         run: Console::ask,
     },

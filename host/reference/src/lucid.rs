@@ -1,4 +1,4 @@
-//! The LucidControl dialect (document 01, "LucidControl"; source document 002).
+//! The LucidControl dialect (document 01, "LucidControl"; document 02, M-103; source document 002).
 
 use crate::card::{Card, Hundredths, Tenths, CHANNELS, CHANNEL_PARAMETERS, PARAMETER_DEFAULTS, PARAMETER_RANGES};
 use crate::numbers::{Number, Reply, ANSWER_ROOM};
@@ -277,34 +277,17 @@ fn set_param(
     if option & !(OPTION_DEFAULT | OPTION_PERSISTENT) != 0 {
         return Err(INV_OPTION);
     }
-    let persistent = option & OPTION_PERSISTENT != 0;
-    if option & OPTION_DEFAULT != 0 {
-        if !data.is_empty() {
-            return Err(INV_LENGTH);
-        }
-        for (parameter, value) in PARAMETER_DEFAULTS.into_iter().enumerate() {
-            store(card, channel, parameter, value, persistent);
-        }
-        return Ok(send([], answer));
-    }
-    let &[low, high, a, b, c, d] = data else {
-        return Err(INV_LENGTH);
+    let (parameter, value) = if option & OPTION_DEFAULT != 0 {
+        let parameter = addressed(data)?;
+        (parameter, PARAMETER_DEFAULTS[parameter])
+    } else {
+        valued(data)?
     };
-    let parameter = parameter(low, high)?;
-    let value = u32::from_le_bytes([a, b, c, d]);
-    if PARAMETER_RANGES[parameter].excludes_unsigned(value) {
-        return Err(INV_DATA);
-    }
-    store(card, channel, parameter, value, persistent);
-    Ok(send([], answer))
-}
-
-/// Sets a parameter, and its saved copy if that is asked.
-fn store(card: &mut Card, channel: usize, parameter: usize, value: u32, persistent: bool) {
     card.parameter[parameter][channel] = value;
-    if persistent {
+    if option & OPTION_PERSISTENT != 0 {
         card.kept[parameter][channel] = value;
     }
+    Ok(send([], answer))
 }
 
 /// GetParam: option, LEN, parameter address.
@@ -319,11 +302,31 @@ fn get_param(
     if option != 0 {
         return Err(INV_OPTION);
     }
+    let value = card.parameter[addressed(data)?][channel];
+    Ok(send(value.to_le_bytes(), answer))
+}
+
+/// The parameter of data that are its address alone: LEN, parameter address.
+#[inline(always)]
+fn addressed(data: &[u8]) -> Result<usize, Refusal> {
     let &[low, high] = data else {
         return Err(INV_LENGTH);
     };
-    let value = card.parameter[parameter(low, high)?][channel];
-    Ok(send(value.to_le_bytes(), answer))
+    parameter(low, high)
+}
+
+/// The parameter and the value of data that are its address and a value: LEN, parameter address, value.
+#[inline(always)]
+fn valued(data: &[u8]) -> Result<(usize, u32), Refusal> {
+    let &[low, high, a, b, c, d] = data else {
+        return Err(INV_LENGTH);
+    };
+    let parameter = parameter(low, high)?;
+    let value = u32::from_le_bytes([a, b, c, d]);
+    if PARAMETER_RANGES[parameter].excludes_unsigned(value) {
+        return Err(INV_DATA);
+    }
+    Ok((parameter, value))
 }
 
 /// Which of a channel's parameters an address names.

@@ -121,7 +121,7 @@ impl Mastered for Lucid {
                 format!("setiogroup {mask} {DEMAND}{}", demands.collect::<String>())
             }
             9 => format!("setparam {channel} {option} {address} {value}"),
-            _ => format!("reset {channel} {}", DEFAULT | option),
+            _ => format!("reset {channel} {} {address}", DEFAULT | option),
         }
     }
 
@@ -178,8 +178,8 @@ fn headers(number: u32) -> Vec<String> {
         format!("getparam 1 {number} 4384"),
         format!("setparam {number} 0 4368 1000"),
         format!("setparam 1 {number} 4384 7"),
-        format!("reset {number} 1"),
-        format!("reset 1 {number}"),
+        format!("reset {number} 1 4368"),
+        format!("reset 1 {number} 4384"),
     ]
 }
 
@@ -189,6 +189,7 @@ fn parameters() -> Vec<String> {
     for address in OTHER_ADDRESSES.into_iter().chain(ADDRESSES.map(u32::from)) {
         requests.push(format!("getparam 2 0 {address}"));
         requests.push(format!("setparam 2 0 {address} 1000"));
+        requests.extend([0, PERSISTENT].map(|option| format!("reset 2 {} {address}", DEFAULT | option)));
     }
     for (address, (lowest, highest)) in ADDRESSES.into_iter().zip(PARAMETER_RANGES) {
         let values = [
@@ -207,7 +208,7 @@ fn parameters() -> Vec<String> {
     requests
 }
 
-/// Gives every entry that can be read any value; every probe fails now and then.
+/// Gives every entry that can be read or reset any value; every probe fails now and then.
 fn set_tables(out: &mut Writer) {
     for channel in 0..CHANNELS {
         let code = probe_code(&mut out.rng);
@@ -215,9 +216,11 @@ fn set_tables(out: &mut Writer) {
         let demand = any_value(&mut out.rng, DEMAND_RANGE);
         out.set("demand", channel, demand);
     }
-    for place in 0..PARAMETERS {
-        let value = any_value(&mut out.rng, PARAMETER_RANGES[place % ADDRESSES.len()]);
-        out.set("parameter", place, value);
+    for table in ["parameter", "kept"] {
+        for place in 0..PARAMETERS {
+            let value = any_value(&mut out.rng, PARAMETER_RANGES[place % ADDRESSES.len()]);
+            out.set(table, place, value);
+        }
     }
 }
 

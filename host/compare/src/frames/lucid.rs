@@ -1,4 +1,4 @@
-//! LucidControl frames (document 01, "LucidControl").
+//! LucidControl frames (document 01, "LucidControl"; document 02, M-103).
 
 use super::Dialect;
 use crate::card::{CHANNELS, PARAMETER_RANGES};
@@ -13,7 +13,7 @@ pub const GET_IO_GROUP: u8 = 0x48;
 pub const SET_IO: u8 = 0x40;
 /// Writes the channels of a mask.
 pub const SET_IO_GROUP: u8 = 0x42;
-/// Writes a parameter, or sets a channel's defaults.
+/// Writes a parameter, or resets it to its default.
 pub const SET_PARAM: u8 = 0xA0;
 /// Reads a parameter.
 pub const GET_PARAM: u8 = 0xA2;
@@ -25,7 +25,7 @@ pub const DEMAND: u8 = 0x10;
 pub const TENTHS: u8 = 0x40;
 /// Value type: a probe in hundredths.
 pub const HUNDREDTHS: u8 = 0x41;
-/// Option of SetParam: the channel's defaults.
+/// Option of SetParam: the parameter's default.
 pub const DEFAULT: u8 = 0x01;
 /// Option of SetParam: the saved copy too.
 pub const PERSISTENT: u8 = 0x80;
@@ -33,7 +33,7 @@ pub const PERSISTENT: u8 = 0x80;
 pub const PARAMETERS: [u16; 2] = [0x1110, 0x1120];
 
 /// Where LEN stands.
-const LEN: usize = 3;
+pub const LEN: usize = 3;
 /// Bytes before the data.
 pub const HEAD: usize = 4;
 /// The masks of channels: 1 to 0Fh.
@@ -47,7 +47,7 @@ const TELLING_P2: [u8; 17] = [
 /// Commands near the known ones, and those of the source that are not built.
 const OTHER_COMMANDS: [u8; 10] = [0x00, 0x41, 0x43, 0x47, 0x49, 0x52, 0xA1, 0xA3, 0xC0, 0xFF];
 /// Parameter addresses near the known ones.
-const OTHER_PARAMETERS: [u16; 8] = [0x0000, 0x110F, 0x1111, 0x111F, 0x1121, 0x1011, 0x2011, 0xFFFF];
+pub const OTHER_PARAMETERS: [u16; 8] = [0x0000, 0x110F, 0x1111, 0x111F, 0x1121, 0x1011, 0x2011, 0xFFFF];
 
 /// The LucidControl dialect.
 pub struct Lucid;
@@ -70,10 +70,7 @@ impl Dialect for Lucid {
                 request(SET_IO_GROUP, mask, DEMAND, &values)
             }
             SET_PARAM => valid_set_param(rng, channel),
-            _ => {
-                let address = rng.pick(&PARAMETERS);
-                request(GET_PARAM, channel, 0, &address.to_le_bytes())
-            }
+            _ => get_param(channel, rng.pick(&PARAMETERS)),
         }
     }
 
@@ -115,13 +112,23 @@ pub fn set_param(channel: u8, option: u8, address: u16, value: u32) -> Vec<u8> {
     request(SET_PARAM, channel, option, &data)
 }
 
-/// SetParam with a value in its range, or one that sets the defaults.
+/// SetParam with a parameter's address alone: a reset, if the option has bit 01h.
+pub fn reset(channel: u8, option: u8, address: u16) -> Vec<u8> {
+    request(SET_PARAM, channel, option, &address.to_le_bytes())
+}
+
+/// GetParam of one parameter.
+pub fn get_param(channel: u8, address: u16) -> Vec<u8> {
+    request(GET_PARAM, channel, 0, &address.to_le_bytes())
+}
+
+/// SetParam with a value in its range, or a reset.
 pub fn valid_set_param(rng: &mut Rng, channel: u8) -> Vec<u8> {
     let option = rng.pick(&[0, 0, PERSISTENT, DEFAULT, DEFAULT | PERSISTENT]);
-    if option & DEFAULT != 0 {
-        return request(SET_PARAM, channel, option, &[]);
-    }
     let parameter = rng.below(PARAMETERS.len());
+    if option & DEFAULT != 0 {
+        return reset(channel, option, PARAMETERS[parameter]);
+    }
     let (lowest, highest) = PARAMETER_RANGES[parameter];
     let inside = rng.between(lowest, highest);
     let value = rng.pick(&[lowest, highest, inside, inside]);
@@ -165,13 +172,12 @@ fn likely_data(rng: &mut Rng, command: u8, p1: u8, p2: u8) -> Vec<u8> {
     let mut data = match command {
         SET_IO => demands(rng, 1),
         SET_IO_GROUP => demands(rng, p1.count_ones() as usize),
-        SET_PARAM if p2 & DEFAULT != 0 && rng.chance(70) => Vec::new(),
-        SET_PARAM => {
+        SET_PARAM if p2 & DEFAULT == 0 || rng.chance(20) => {
             let mut data = any_parameter(rng).to_le_bytes().to_vec();
             data.extend(any_value(rng).to_le_bytes());
             data
         }
-        GET_PARAM => any_parameter(rng).to_le_bytes().to_vec(),
+        SET_PARAM | GET_PARAM => any_parameter(rng).to_le_bytes().to_vec(),
         _ => Vec::new(),
     };
     match rng.below(15) {
@@ -180,6 +186,7 @@ fn likely_data(rng: &mut Rng, command: u8, p1: u8, p2: u8) -> Vec<u8> {
         }
         1 => data.push(rng.byte()),
         2 => data = rng.bytes(4),
+        3 => data.clear(),
         _ => {}
     }
     data

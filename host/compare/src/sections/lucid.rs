@@ -3,8 +3,8 @@
 use super::dialect;
 use crate::card::{CHANNELS, PARAMETER_RANGES};
 use crate::frames::lucid::{
-    request, set_param, valid_set_param, Lucid, COMMANDS, DEFAULT, DEMAND, GET_IO, GET_IO_GROUP, GET_PARAM, HUNDREDTHS,
-    PARAMETERS, PERSISTENT, SET_IO, SET_IO_GROUP, SET_PARAM, TENTHS,
+    get_param, request, reset, set_param, valid_set_param, Lucid, COMMANDS, DEFAULT, DEMAND, GET_IO, GET_IO_GROUP,
+    GET_PARAM, HUNDREDTHS, PARAMETERS, PERSISTENT, SET_IO, SET_IO_GROUP, SET_PARAM, TENTHS,
 };
 use crate::frames::Dialect;
 use crate::writer::{Writer, ANSWER_ROOM};
@@ -37,7 +37,7 @@ fn send(out: &mut Writer, frame: &[u8]) {
 /// Shows both parameters of a channel.
 fn show_parameters(out: &mut Writer, channel: u8) {
     for address in PARAMETERS {
-        send(out, &request(GET_PARAM, channel, 0, &address.to_le_bytes()));
+        send(out, &get_param(channel, address));
     }
 }
 
@@ -66,7 +66,7 @@ fn headers(out: &mut Writer, turn: usize) {
         let (p2, data): (u8, &[u8]) = match command {
             GET_IO | GET_IO_GROUP => (DEMAND, &[]),
             SET_IO | SET_IO_GROUP => (DEMAND, &[1, 2]),
-            SET_PARAM => (DEFAULT, &[]),
+            SET_PARAM => (DEFAULT, &address),
             _ => (0, &address),
         };
         send(out, &request(command, byte, p2, data));
@@ -101,7 +101,7 @@ fn demands(out: &mut Writer, turn: usize) {
     send(out, &request(GET_IO, channel, DEMAND, &[]));
 }
 
-/// Values at and past each end of a parameter's range, with every option.
+/// Values at and past each end of a parameter's range, with and without the saved copy; an address of no parameter; a reset.
 fn parameters(out: &mut Writer, turn: usize) {
     let channel = (turn % CHANNELS) as u8;
     let parameter = turn / CHANNELS % PARAMETERS.len();
@@ -115,7 +115,11 @@ fn parameters(out: &mut Writer, turn: usize) {
     show_parameters(out, channel);
     let near = PARAMETERS[parameter] ^ (1 << out.rng.below(16));
     send(out, &set_param(channel, option, near, lowest as u32));
-    send(out, &request(GET_PARAM, channel, 0, &near.to_le_bytes()));
+    send(out, &get_param(channel, near));
+    for address in [near, PARAMETERS[parameter]] {
+        send(out, &reset(channel, DEFAULT | option, address));
+    }
+    show_parameters(out, channel);
 }
 
 /// Data of every length for every command, with LEN right and one off.
@@ -124,7 +128,7 @@ fn lengths(out: &mut Writer, turn: usize) {
     let data = out.rng.bytes(length);
     for command in COMMANDS {
         let p2 = match command {
-            SET_PARAM => out.rng.pick(&[0, DEFAULT, PERSISTENT]),
+            SET_PARAM => out.rng.pick(&[0, DEFAULT, PERSISTENT, DEFAULT | PERSISTENT]),
             GET_PARAM => 0,
             _ => DEMAND,
         };

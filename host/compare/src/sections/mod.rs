@@ -11,6 +11,7 @@ mod love;
 mod lucid;
 mod masters;
 mod receivers;
+mod resets;
 mod tables;
 mod unreadable;
 
@@ -101,7 +102,7 @@ const MASTER_ENTRIES: [Entry; 6] = [
 ];
 
 /// All sections, in the order of their turns.
-pub const SECTIONS: [Section; 12] = [
+pub const SECTIONS: [Section; 13] = [
     Section {
         name: "tables",
         share: Share::Part(3),
@@ -170,6 +171,16 @@ pub const SECTIONS: [Section; 12] = [
         is_followed: false,
         is_exchange: false,
         scene: lengths::scene,
+        close: |_| {},
+    },
+    Section {
+        name: "resets",
+        share: Share::Whole(resets::CASES),
+        needs: &["lucid", "poke", "peek"],
+        entries: &[],
+        is_followed: false,
+        is_exchange: false,
+        scene: resets::scene,
         close: |_| {},
     },
     Section {

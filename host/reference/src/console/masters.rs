@@ -132,7 +132,11 @@ fn lucid_request(words: &[u8]) -> Result<KeptLucid, Unreadable> {
             address,
             value,
         },
-        (b"reset", []) => Reset { channel, option },
+        (b"reset", &[address]) => Reset {
+            channel,
+            option,
+            address,
+        },
         _ => return Err(Unreadable),
     };
     Ok(KeptLucid { request, values })

@@ -1,4 +1,4 @@
-//! LucidControl's master (document 01, "LucidControl"; document 02, M-102).
+//! LucidControl's master (document 01, "LucidControl"; document 02, M-102 and M-103).
 
 mod request;
 
@@ -42,23 +42,37 @@ pub fn make(request: &Request, frame: &mut [u8]) -> Reply {
             [a, b, c, d] => make_set_group(mask as u8, [a, b, c, d], frame),
             _ => OUTSIDE,
         },
-        Request::GetParam { channel, address, .. } => {
-            let [low, high] = (address as u16).to_le_bytes();
-            hand_over([GET_PARAM, channel as u8, 0, ADDRESS_SIZE as u8, low, high], frame)
-        }
+        Request::GetParam {
+            channel,
+            option,
+            address,
+        } => make_addressed([GET_PARAM, channel as u8, option as u8], address, frame),
         Request::SetParam {
             channel,
             option,
             address,
             value,
-        } => {
-            let [low, high] = (address as u16).to_le_bytes();
-            let head = [SET_PARAM, channel as u8, option as u8, PARAMETER_SIZE as u8];
-            let ([opc, p1, p2, len], [a, b, c, d]) = (head, value.to_le_bytes());
-            hand_over([opc, p1, p2, len, low, high, a, b, c, d], frame)
-        }
-        Request::Reset { channel, option } => hand_over([SET_PARAM, channel as u8, option as u8, 0], frame),
+        } => make_set_param([SET_PARAM, channel as u8, option as u8], address, value, frame),
+        Request::Reset {
+            channel,
+            option,
+            address,
+        } => make_addressed([SET_PARAM, channel as u8, option as u8], address, frame),
     }
+}
+
+/// Makes a frame whose data are a parameter's address and its value.
+#[inline(always)]
+fn make_set_param([opc, p1, p2]: [u8; 3], address: u32, value: u32, frame: &mut [u8]) -> Reply {
+    let ([low, high], [a, b, c, d]) = ((address as u16).to_le_bytes(), value.to_le_bytes());
+    hand_over([opc, p1, p2, PARAMETER_SIZE as u8, low, high, a, b, c, d], frame)
+}
+
+/// Makes a frame whose data are a parameter's address alone.
+#[inline(always)]
+fn make_addressed([opc, p1, p2]: [u8; 3], address: u32, frame: &mut [u8]) -> Reply {
+    let [low, high] = (address as u16).to_le_bytes();
+    hand_over([opc, p1, p2, ADDRESS_SIZE as u8, low, high], frame)
 }
 
 /// Makes a SetIoGroup, which has a demand for each channel.

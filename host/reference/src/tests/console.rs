@@ -228,6 +228,6 @@ fn help_lists_the_calls() {
     assert!(
         help.contains("; step ROOM BYTES; ask lecom ROOM ADDRESS read CODE; ask lecom ROOM ADDRESS write CODE VALUE; ")
     );
-    assert!(help.contains("; ask lucid ROOM reset CHANNEL OPTION; reply lecom BYTES; reply love BYTES; "));
+    assert!(help.contains("; ask lucid ROOM reset CHANNEL OPTION ADDRESS; reply lecom BYTES; reply love BYTES; "));
     assert_eq!(help.matches("; ").count(), 31);
 }

@@ -1,5 +1,7 @@
+mod resets;
+
 use super::{call, hex};
-use crate::card::{Card, Parameters};
+use crate::card::Card;
 
 fn sent(card: &mut Card, frame: &str) -> (u8, Vec<u8>) {
     call(crate::lucid::lucid, card, &hex(frame))
@@ -44,13 +46,10 @@ fn source_parameters() {
     assert_eq!((card.parameter[0][0], card.kept[0][0]), (750_000, 750_000));
     assert_eq!(sent(&mut card, "A0 00 00 06 10 11 E8 03 00 00"), (0, hex("00 00")));
     assert_eq!((card.parameter[0][0], card.kept[0][0]), (1_000, 750_000));
-    assert_eq!(sent(&mut card, "A0 00 00 06 20 11 FF FF 00 00"), (0, hex("00 00")));
-    assert_eq!(sent(&mut card, "A0 00 01 00"), (0, hex("00 00")));
-    let of_channel_0 = |table: Parameters| table.map(|parameter| parameter[0]);
-    assert_eq!(of_channel_0(card.parameter), [1_000_000, 0]);
-    assert_eq!(of_channel_0(card.kept), [750_000, 0]);
-    assert_eq!(sent(&mut card, "A0 00 81 00"), (0, hex("00 00")));
-    assert_eq!(of_channel_0(card.kept), [1_000_000, 0]);
+    assert_eq!(sent(&mut card, "A0 00 01 02 10 11"), (0, hex("00 00")));
+    assert_eq!((card.parameter[0][0], card.kept[0][0]), (1_000_000, 750_000));
+    assert_eq!(sent(&mut card, "A0 00 81 02 10 11"), (0, hex("00 00")));
+    assert_eq!((card.parameter[0][0], card.kept[0][0]), (1_000_000, 1_000_000));
 }
 
 #[test]
@@ -80,11 +79,19 @@ fn order_of_refusals() {
         ("46 00 40 01 00", 3, "B0 00"),
         ("40 00 10 01 00", 3, "B0 00"),
         ("42 03 10 02 00 00", 3, "B0 00"),
+        ("A0 04 01 02 10 11", 6, "B8 00"),
+        ("A0 00 03 00", 7, "B4 00"),
+        ("A0 00 01 00", 3, "B0 00"),
+        ("A0 00 81 01 10", 3, "B0 00"),
         ("A0 00 01 06 10 11 00 00 00 00", 3, "B0 00"),
+        ("A0 00 81 03 99 11 00", 3, "B0 00"),
+        ("A0 00 00 02 10 11", 3, "B0 00"),
         ("A0 00 80 05 99 11 00 00 00", 3, "B0 00"),
         ("A2 00 00 03 10 11 00", 3, "B0 00"),
         ("A0 00 00 06 30 11 00 00 00 00", 6, "BA 00"),
         ("A2 03 00 02 11 10", 6, "BA 00"),
+        ("A0 00 01 02 11 10", 6, "BA 00"),
+        ("A0 03 81 02 30 11", 6, "BA 00"),
         ("A0 00 00 06 10 11 E7 03 00 00", 7, "C0 00"),
         ("A0 00 00 06 10 11 01 87 93 03", 7, "C0 00"),
         ("A0 00 00 06 20 11 00 00 01 00", 7, "C0 00"),

@@ -1,7 +1,7 @@
 -- `lucid::frame::command_asked` meets its contract, command by command. Assumes nothing.
 use mathlib.Core.Path.{ap, _∙_}
 use Rattle.lucid.specs.Stages.{commandAsked}
-use Rattle.lucid.specs.declared.frame.Order.the-variants.{SetIo, Reset}
+use Rattle.lucid.specs.declared.frame.Order.the-variants.{SetIo}
 use Rattle.lucid.proofs.Frames.{addressed}
 use Rattle.wire.proofs.Cases.{yes, no, told-true, told-false}
 use borrow.Author.Needs.{needs}
@@ -28,23 +28,13 @@ returns-2 : tie.Need-returns-2
 unfolding commandAsked
 returns-2 c = ap SetIo (c .mask-of2 .ensures) ∙ search (yes, no, told-true, told-false) depth 12
 
-is-reset-requires : tie.Need-is-reset-requires
-is-reset-requires c κs = search needs
-
-is-saved-requires : tie.Need-is-saved-requires
-is-saved-requires c κs = search needs
+parameter-asked-requires : tie.Need-parameter-asked-requires
+parameter-asked-requires c κs = let tested = c .before .before in
+    addressed _ _ _ _ (tested .before .before .before .pre) (told-false (tested .before .is-get .ensures) (tested .if1 .left)) (told-false (c .before .is-set .ensures) (c .if2 .left))
 
 returns-3 : tie.Need-returns-3
 unfolding commandAsked
-returns-3 c = ap (Reset (c .before .before .before .before .before .before .before .before .args .p1)) (c .is-saved .ensures) ∙ search (yes, no, told-true, told-false) depth 12
-
-parameter-asked-requires : tie.Need-parameter-asked-requires
-parameter-asked-requires c κs = let tested = c .before .before in
-    addressed _ _ _ _ (tested .before .before .before .before .before .pre) (told-false (tested .before .before .before .is-get .ensures) (tested .before .before .if1 .left)) (told-false (tested .before .is-set .ensures) (tested .if2 .left)) (told-false (c .before .is-reset .ensures) (c .if3 .left))
-
-returns-4 : tie.Need-returns-4
-unfolding commandAsked
-returns-4 c = search (yes, no, told-true, told-false) depth 12
+returns-3 c = search (yes, no, told-true, told-false) depth 12
 
 pub command-asked-spec : {M : Type 1} → statement M
 command-asked-spec =
@@ -56,8 +46,5 @@ command-asked-spec =
     is-set-requires
     mask-of-requires-2
     returns-2
-    is-reset-requires
-    is-saved-requires
-    returns-3
     parameter-asked-requires
-    returns-4)
+    returns-3)

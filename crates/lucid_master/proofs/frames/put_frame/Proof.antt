@@ -39,8 +39,8 @@ put-set-requires-2 c κs = let s = c .before .before .before .before .before in
 enum-told-5 : tie.Need-enum-told-5
 enum-told-5 c = search needs
 
-put-get-param-requires : tie.Need-put-get-param-requires
-put-get-param-requires c κs = let s = c .before .before .before .before .before in
+put-addressed-requires : tie.Need-put-addressed-requires
+put-addressed-requires c κs = let s = c .before .before .before .before .before in
     (headed (s .args .request) (s .args .values .now) (s .pre .0), s .pre .1)
 
 enum-told-6 : tie.Need-enum-told-6
@@ -57,9 +57,9 @@ put-set-param-requires c κs = let s = c .before .before .before .before .before
 enum-told-7 : tie.Need-enum-told-7
 enum-told-7 c = search needs
 
-put-bare-requires-3 : tie.Need-put-bare-requires-3
-put-bare-requires-3 c κs = let s = c .before .before .before .before .before in
-    (headed (s .args .request) (s .args .values .now) (s .pre .0), omega (arith, s .pre .1))
+put-addressed-requires-2 : tie.Need-put-addressed-requires-2
+put-addressed-requires-2 c κs = let s = c .before .before .before .before .before in
+    (headed (s .args .request) (s .args .values .now) (s .pre .0), s .pre .1)
 
 same-length : tie.Need-same-length
 same-length c = search needs
@@ -94,7 +94,7 @@ same-length-5 c = search needs
 
 returns-5 : tie.Need-returns-5
 returns-5 c = let a = c .before .before .before .before .before .before .before .before .args in
-    wrote-as _ _ (sym (made-get-param (a .request) (a .values .now) (c .before .before .before .before .enum-told5 .given .1))) (c .before .before .put-get-param .ensures)
+    wrote-as _ _ (sym (made-get-param (a .request) (a .values .now) (c .before .before .before .before .enum-told5 .given .1))) (c .before .before .put-addressed .ensures)
 
 same-length-6 : tie.Need-same-length-6
 same-length-6 c = search needs
@@ -108,7 +108,7 @@ same-length-7 c = search needs
 
 returns-7 : tie.Need-returns-7
 returns-7 c = let a = c .before .before .before .before .before .before .before .before .args in
-    wrote-as _ _ (sym (made-reset (a .request) (a .values .now) (c .before .before .before .before .enum-told7 .given .1))) (c .before .before .put-bare3 .ensures)
+    wrote-as _ _ (sym (made-reset (a .request) (a .values .now) (c .before .before .before .before .enum-told7 .given .1))) (c .before .before .put-addressed2 .ensures)
 
 pub put-frame-spec : {M : Type 1} → statement M
 put-frame-spec =
@@ -123,12 +123,12 @@ put-frame-spec =
     enum-told-4
     put-set-requires-2
     enum-told-5
-    put-get-param-requires
+    put-addressed-requires
     enum-told-6
     shared-slice-read-put-set-param
     put-set-param-requires
     enum-told-7
-    put-bare-requires-3
+    put-addressed-requires-2
     same-length
     returns
     same-length-2

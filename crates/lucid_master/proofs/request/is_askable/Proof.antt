@@ -41,11 +41,11 @@ group-set-right-requires c κs = search needs
 enum-told-5 : tie.Need-enum-told-5
 enum-told-5 c = search needs
 
-address-known-requires : tie.Need-address-known-requires
-address-known-requires c κs = search needs
-
 channel-right-requires-3 : tie.Need-channel-right-requires-3
 channel-right-requires-3 c κs = search needs
+
+addressed-right-requires : tie.Need-addressed-right-requires
+addressed-right-requires c κs = search needs
 
 enum-told-6 : tie.Need-enum-told-6
 enum-told-6 c = search needs
@@ -58,6 +58,9 @@ enum-told-7 c = search needs
 
 channel-right-requires-4 : tie.Need-channel-right-requires-4
 channel-right-requires-4 c κs = search needs
+
+addressed-right-requires-2 : tie.Need-addressed-right-requires-2
+addressed-right-requires-2 c κs = search needs
 
 returns : tie.Need-returns
 returns c = let a = c .before .before .before .before .before .args in
@@ -76,14 +79,14 @@ returns-4 c = search needs
 
 returns-5 : tie.Need-returns-5
 returns-5 c = let a = c .before .before .before .before .before .args in
-    rw (c .channel-right3 .ensures, c .before .address-known .ensures) (sym (ask-get-param (a .request) (a .values .now) (c .before .before .enum-told5 .given .1)))
+    rw (c .before .channel-right3 .ensures, c .addressed-right .ensures) (sym (ask-get-param (a .request) (a .values .now) (c .before .before .enum-told5 .given .1)))
 
 returns-6 : tie.Need-returns-6
 returns-6 c = search needs
 
 returns-7 : tie.Need-returns-7
-returns-7 c = let a = c .before .before .before .before .args in
-    rw (c .channel-right4 .ensures) (sym (ask-reset (a .request) (a .values .now) (c .before .enum-told7 .given .1)))
+returns-7 c = let a = c .before .before .before .before .before .args in
+    rw (c .before .channel-right4 .ensures, c .addressed-right2 .ensures) (sym (ask-reset (a .request) (a .values .now) (c .before .before .enum-told7 .given .1)))
 
 pub is-askable-spec : {M : Type 1} → statement M
 is-askable-spec =
@@ -101,12 +104,13 @@ is-askable-spec =
     enum-told-4
     group-set-right-requires
     enum-told-5
-    address-known-requires
     channel-right-requires-3
+    addressed-right-requires
     enum-told-6
     set-param-right-requires
     enum-told-7
     channel-right-requires-4
+    addressed-right-requires-2
     returns
     returns-2
     returns-3

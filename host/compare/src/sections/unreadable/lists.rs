@@ -1,7 +1,7 @@
 //! Odd lines and words, and lines at each limit of the console's page.
 
 /// Whole lines that are odd as they are.
-pub const ODD_LINES: [&[u8]; 134] = [
+pub const ODD_LINES: [&[u8]; 138] = [
     b"",
     b" ",
     b"     ",
@@ -121,8 +121,12 @@ pub const ODD_LINES: [&[u8]; 134] = [
     b"ask lucid 4 getparam 0 0 4368 0",
     b"ask lucid 4 setparam 0 0 4368",
     b"ask lucid 4 setparam 0 0 4368 1000 0",
-    b"ask lucid 4 reset 0",
-    b"ask lucid 4 reset 0 1 4368",
+    b"ask lucid 6 reset",
+    b"ask lucid 6 reset 0",
+    b"ask lucid 6 reset 0 1",
+    b"ask lucid 6 reset 0 1 1110h",
+    b"ask lucid 6 reset 0 1 4368 0",
+    b"ask lucid 6 reset 0 1 4368 4384",
     b"ask lucid 4 getid 0 0",
     b"ask getio 0 16",
     b"asks lecom 6 11 read 5",
@@ -209,7 +213,7 @@ pub const ODD_BYTES: [&str; 18] = [
 ];
 
 /// Lines whose numbers lie at a limit of docs/CONSOLE.md or one past it.
-pub const LIMIT_LINES: [&str; 148] = [
+pub const LIMIT_LINES: [&str; 155] = [
     "probe 255 0",
     "probe 256 0",
     "probe 0 255",
@@ -356,12 +360,19 @@ pub const LIMIT_LINES: [&str; 148] = [
     "ask lucid 10 setparam 0 0 4368 4294967295",
     "ask lucid 10 setparam 0 0 4368 4294967296",
     "ask lucid 10 setparam 0 0 4368 -1000",
-    "ask lucid 4 reset 0 4294967295",
-    "ask lucid 4 reset 0 4294967296",
+    "ask lucid 6 reset 4294967295 1 4368",
+    "ask lucid 6 reset 4294967296 1 4368",
+    "ask lucid 6 reset 0 4294967295 4368",
+    "ask lucid 6 reset 0 4294967296 4368",
+    "ask lucid 6 reset 0 1 4294967295",
+    "ask lucid 6 reset 0 1 4294967296",
+    "ask lucid 6 reset 0 1 0000004368",
+    "ask lucid 6 reset 0 1 00000004368",
+    "ask lucid 6 reset 0 1 -4368",
 ];
 
 /// Requests to the masters with N in the place of a number, and a reply that tells which request is kept.
-pub const REQUEST_LINES: [(&str, &str); 24] = [
+pub const REQUEST_LINES: [(&str, &str); 26] = [
     ("ask lecom N 11 read 7", "reply lecom 02 30 37 38 03 3C"),
     ("ask lecom 6 N read 7", "reply lecom 02 30 37 38 03 3C"),
     ("ask lecom 6 11 read N", "reply lecom 02 30 37 38 03 3C"),
@@ -397,5 +408,7 @@ pub const REQUEST_LINES: [(&str, &str); 24] = [
     ("ask lucid 6 getparam 0 0 N", "reply lucid 00 04 B0 71 0B 00"),
     ("ask lucid 9 setparam 0 N 4384 7", "reply lucid 00 00"),
     ("ask lucid 9 setparam 0 0 4384 N", "reply lucid 00 00"),
-    ("ask lucid 4 reset 0 N", "reply lucid 00 00"),
+    ("ask lucid 6 reset N 1 4368", "reply lucid 00 00"),
+    ("ask lucid 6 reset 0 N 4384", "reply lucid 00 00"),
+    ("ask lucid 6 reset 0 1 N", "reply lucid 00 00"),
 ];

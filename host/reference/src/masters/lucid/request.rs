@@ -1,4 +1,4 @@
-//! LucidControl's requests, and which of them document 01 has.
+//! LucidControl's requests, and which of them documents 01 and 02 have.
 
 use crate::card::{CHANNELS, DEMAND_RANGE, PARAMETER_RANGES};
 use crate::lucid::{
@@ -49,7 +49,7 @@ pub enum Request<'a> {
         /// The parameter's address.
         address: u32,
     },
-    /// A new value of a parameter: SetParam without the option of defaults.
+    /// A new value of a parameter: SetParam without the option of its default.
     SetParam {
         /// The channel.
         channel: u32,
@@ -60,17 +60,19 @@ pub enum Request<'a> {
         /// The value.
         value: u32,
     },
-    /// The defaults of a channel's parameters: SetParam with that option.
+    /// The default of a parameter: SetParam with that option.
     Reset {
         /// The channel.
         channel: u32,
         /// The option byte.
         option: u32,
+        /// The parameter's address.
+        address: u32,
     },
 }
 
 impl Request<'_> {
-    /// Whether document 01 has such a request.
+    /// Whether documents 01 and 02 have such a request.
     #[inline(always)]
     pub(super) fn is_inside(&self) -> bool {
         match *self {
@@ -97,7 +99,11 @@ impl Request<'_> {
                 address,
                 value,
             } => is_channel(channel) && set_option(option) == Some(0) && takes(address, value),
-            Self::Reset { channel, option } => is_channel(channel) && set_option(option) == Some(OPTION_DEFAULT),
+            Self::Reset {
+                channel,
+                option,
+                address,
+            } => is_channel(channel) && set_option(option) == Some(OPTION_DEFAULT) && parameter(address).is_some(),
         }
     }
 

@@ -26,11 +26,12 @@ fn requests_and_replies() {
         "0 48 09 40 00\n1 value -10 870\n1 fault\n1 refused 184\n"
     );
     let commands = "ask lucid 6 setio 2 16 4660\nask lucid 8 setiogroup 9 16 258 65535\nask lucid 4 getio 3 65\n\
-                    ask lucid 6 getparam 1 0 4368\nask lucid 10 setparam 0 128 4368 750000\nask lucid 4 reset 3 129";
+                    ask lucid 6 getparam 1 0 4368\nask lucid 10 setparam 0 128 4368 750000\n\
+                    ask lucid 6 reset 3 129 4384\nreply lucid 00 00\nreply lucid BA 00\nask lucid 5 reset 0 1 4368";
     assert_eq!(
         output(commands),
         "0 40 02 10 02 34 12\n0 42 09 10 04 02 01 FF FF\n0 46 03 41 00\n0 A2 01 00 02 10 11\n\
-         0 A0 00 80 06 10 11 B0 71 0B 00\n0 A0 03 81 00\n"
+         0 A0 00 80 06 10 11 B0 71 0B 00\n0 A0 03 81 02 20 11\n1 done\n1 refused 186\n11\n"
     );
 }
 
@@ -56,7 +57,11 @@ fn requests_that_cannot_be_made() {
         "lucid 0 getparam 0 1 4368",
         "lucid 0 setparam 0 1 4368 1000",
         "lucid 0 setparam 0 256 4368 1000",
-        "lucid 0 reset 0 128",
+        "lucid 0 reset 4 1 4368",
+        "lucid 0 reset 0 128 4368",
+        "lucid 0 reset 0 257 4368",
+        "lucid 0 reset 0 1 4369",
+        "lucid 0 reset 0 129 69904",
     ] {
         let dialect = line.split(' ').next().unwrap_or_default();
         let lines = format!("ask {line}\nreply {dialect} 15\nreply {dialect}");
@@ -117,8 +122,10 @@ fn lines_that_cannot_be_read() {
         "lucid 6 getparam 0 0 4368 0",
         "lucid 10 setparam 0 0 4368",
         "lucid 10 setparam 0 0 4368 1000 0",
-        "lucid 4 reset 0",
-        "lucid 4 reset 0 1 4368",
+        "lucid 6 reset 0",
+        "lucid 6 reset 0 1",
+        "lucid 6 reset 0 1 -4368",
+        "lucid 6 reset 0 1 4368 0",
     ] {
         let error = output(&format!("ask {line}\nask {line}"));
         assert!(error.starts_with("error expected ask lecom ROOM"), "{line}");

@@ -53,8 +53,12 @@ fn set_param(channel: u32, option: u32, address: u32, value: u32) -> Request<'st
     }
 }
 
-fn reset(channel: u32, option: u32) -> Request<'static> {
-    Request::Reset { channel, option }
+fn reset(channel: u32, option: u32, address: u32) -> Request<'static> {
+    Request::Reset {
+        channel,
+        option,
+        address,
+    }
 }
 
 fn frame(request: Request) -> (u8, Vec<u8>) {
@@ -105,8 +109,11 @@ fn frames_of_every_command() {
         frame(set_group(15, DEMAND, &[1, 2, 3, 0x0400])),
         (0, hex("42 0F 10 08 01 00 02 00 03 00 00 04"))
     );
-    assert_eq!(frame(reset(3, DEFAULT)), (0, hex("A0 03 01 00")));
-    assert_eq!(frame(reset(0, DEFAULT | PERSISTENT)), (0, hex("A0 00 81 00")));
+    assert_eq!(frame(reset(3, DEFAULT, CYCLE)), (0, hex("A0 03 01 02 10 11")));
+    assert_eq!(
+        frame(reset(0, DEFAULT | PERSISTENT, FLOOR)),
+        (0, hex("A0 00 81 02 20 11"))
+    );
 }
 
 /// Every channel, mask, type and option up to 300, and a wider number whose low byte is right.
@@ -131,8 +138,8 @@ fn headers() {
             (get_param(3, number, FLOOR), number == 0),
             (set_param(number, 0, FLOOR, 0), is_channel),
             (set_param(3, number, FLOOR, 0), matches!(number, 0 | PERSISTENT)),
-            (reset(number, DEFAULT), is_channel),
-            (reset(3, number), matches!(number, 0x01 | 0x81)),
+            (reset(number, DEFAULT, CYCLE), is_channel),
+            (reset(3, number, FLOOR), matches!(number, 0x01 | 0x81)),
         ];
         for (request, is_made) in cases {
             assert_eq!(frame(request).0, if is_made { 0 } else { 7 }, "{request:?}");
@@ -161,8 +168,16 @@ fn numbers() {
         assert_eq!(frame(set_param(0, 0, CYCLE, value)).0, number);
     }
     for address in [0, 0x110F, 0x1111, 0x1121, 0x1011, CYCLE + (1 << 16), u32::MAX] {
-        assert_eq!(frame(get_param(0, 0, address)).0, 7);
-        assert_eq!(frame(set_param(0, 0, address, 1_000)).0, 7);
+        let requests = [
+            get_param(0, 0, address),
+            set_param(0, 0, address, 1_000),
+            reset(0, DEFAULT, address),
+            reset(3, DEFAULT | PERSISTENT, address),
+        ];
+        for request in requests {
+            assert_eq!(frame(request), (7, vec![]), "{request:?}");
+            assert_eq!(heard(request, "00 00"), OUTSIDE, "{request:?}");
+        }
     }
     for count in 0..8 {
         let values = vec![1; count];
@@ -241,7 +256,8 @@ fn statuses() {
         set(0, DEMAND, 1),
         set_group(1, DEMAND, &[1]),
         set_param(0, 0, FLOOR, 1),
-        reset(0, DEFAULT),
+        reset(0, DEFAULT, CYCLE),
+        reset(3, DEFAULT | PERSISTENT, FLOOR),
     ];
     let all = gets.map(|request| (request, false)).into_iter();
     for (request, is_set) in all.chain(sets.map(|request| (request, true))) {

@@ -1,6 +1,6 @@
 use std::ops::Range;
 
-use super::{any_code, code_of, compare, hex, Asked, Entry, Random};
+use super::{any_code, call, code_of, compare, hex, made, Asked, Entry, Random};
 use crate::card::Card;
 use crate::masters::lucid::{hear, make, Request};
 use crate::masters::Heard;
@@ -67,6 +67,8 @@ impl Asked for Request<'_> {
             "46 00 11 00",
             "A2 00 80 00",
             "A2 00 00 02 00 00",
+            "A0 00 01 00",
+            "A0 00 01 02 00 00",
             "A0 00 00 06 10 11 00 00 00 00",
         ];
         frames.map(hex).to_vec()
@@ -101,7 +103,8 @@ fn replies() {
             get(channel, 0x41),
             get_param(channel, 0x1110),
             get_param(channel, 0x1120),
-            Request::Reset { channel, option: 0x81 },
+            reset(channel, 0x01, 0x1110),
+            reset(channel, 0x81, 0x1120),
             Request::SetIo {
                 channel,
                 value_type: 0x10,
@@ -114,6 +117,31 @@ fn replies() {
     }
 }
 
+/// Document 02, M-103: a made reset is that of the one parameter asked for, and of its saved copy where that is asked.
+#[test]
+fn resets() {
+    let places = [(0, 0x1110, 1_000_000), (1, 0x1120, 0)];
+    for (parameter, address, default) in places {
+        for channel in 0..4 {
+            for option in [0x01, 0x81] {
+                let request = reset(channel, option, address);
+                let mut card = request.unit();
+                card.parameter = [[2_000; 4], [3_000; 4]];
+                card.kept = [[4_000; 4], [5_000; 4]];
+                let mut expected = card.clone();
+                expected.parameter[parameter][channel as usize] = default;
+                if option == 0x81 {
+                    expected.kept[parameter][channel as usize] = default;
+                }
+                let (_, frame) = made(|room| make(&request, room));
+                let (_, reply) = call(Request::ENTRY, &mut card, &frame);
+                assert_eq!(hear(&request, &reply), Heard::Done, "{request:?}");
+                assert!(card == expected, "{request:?}");
+            }
+        }
+    }
+}
+
 fn get(channel: u32, value_type: u32) -> Request<'static> {
     Request::GetIo { channel, value_type }
 }
@@ -122,6 +150,14 @@ fn get_param(channel: u32, address: u32) -> Request<'static> {
     Request::GetParam {
         channel,
         option: 0,
+        address,
+    }
+}
+
+fn reset(channel: u32, option: u32, address: u32) -> Request<'static> {
+    Request::Reset {
+        channel,
+        option,
         address,
     }
 }
