@@ -15,7 +15,7 @@ use card::probe::{FAULT_CODE, TENTHS_BELOW, TENTHS_PER_CODE};
 use std::num::wrapping_add_u32;
 
 // The values of a group, lowest channel first; those behind the count have no meaning.
-#[derive(Drop)]
+#[derive(Clone, Copy)]
 pub struct Group {
     pub count: usize,
     pub first: u32,
@@ -26,7 +26,7 @@ pub struct Group {
 
 // What a reply means: a value, a group's values, done, fault, refused (as such, or for the code or status that the reply carries); or that
 // it is none of these, by its number.
-#[derive(Drop)]
+#[derive(Clone, Copy)]
 pub enum Heard {
     Value(u32),
     Values(Group),

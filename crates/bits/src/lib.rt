@@ -102,7 +102,7 @@ pub fn read_fields(out: &mut [u32], image: &[u8], place: usize, width: usize)
 
 // A reader of an image: the image, and the place of its next bit.
 // Its functions are thin, since each is proved by hand; the work is done on a slice and a place.
-#[derive(Drop)]
+#[derive(Clone, Copy)]
 pub struct BitReader<'a> {
     pub image: &'a [u8],
     pub place: usize,
@@ -149,7 +149,7 @@ fn scatter(image: &mut [u8], first: usize, count: usize, n: u64)
 }
 
 // Fields on their way into an image: the bytes before byte `at` are written, and the `count` low bits of `held` come next.
-#[derive(Drop)]
+#[derive(Clone, Copy)]
 pub struct Packed {
     pub at: usize,
     pub held: u64,

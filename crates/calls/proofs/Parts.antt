@@ -106,6 +106,7 @@ module _ (card : Card) (e : ready card ≡ true) (t : Bytes card.ports) (d : Dia
   pub part_stays : (c : Call) → OfOthers d c → part_of d (reply_of card c).card.ports ≡ part_of d card.ports
   unfolding reply_of set_code guarded with_code write_image shell
   part_stays (SetCode channel code) o = by_choice Stays (fit card) _ _ (λ _. by_choice Stays (ltb channel channels) _ _ (λ _. refl) (λ _. refl)) (λ _. refl)
+  part_stays Restart o = elim o [ ]
   part_stays (Governor channel) o = refl
   part_stays (Frame dialect room f) o = frame_part dialect room f
   part_stays (Receive x room bytes) o =

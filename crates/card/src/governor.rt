@@ -9,7 +9,7 @@ use crate::layout::CHANNELS;
 use crate::numbers::{CARD_UNFIT, RANGE_UNKNOWN};
 use crate::probe::{Reading, read_code};
 
-#[derive(Drop)]
+#[derive(Clone, Copy)]
 pub enum Governor {
     Degrees(f32),
     Fault,

@@ -18,7 +18,7 @@ ghost use Rattle.card.specs.Reply.{early, done_with};
 use numbers::{ANSWERED, BUFFER_SHORT, CARD_UNFIT, DONE};
 
 // What an entry with an answer buffer gives: a number of document 01 and the answer's length.
-#[derive(Drop)]
+#[derive(Clone, Copy)]
 pub struct Outcome {
     pub number: u8,
     pub len: usize,

@@ -11,7 +11,7 @@ pub const TENTHS_PER_CODE: u32 = 5;
 pub const TENTHS_BELOW: u32 = 400;
 
 // Tenths of a degree, in two's complement. Only a probe reading makes one.
-#[derive(Drop)]
+#[derive(Clone, Copy)]
 pub struct Tenths(u32);
 
 impl Tenths {
@@ -24,7 +24,7 @@ impl Tenths {
 }
 
 // What a probe's code says.
-#[derive(Drop)]
+#[derive(Clone, Copy)]
 pub enum Reading {
     Temperature(Tenths),
     Fault,

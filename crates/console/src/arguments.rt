@@ -19,7 +19,7 @@ pub fn last_number(s: &[u8], at: usize, most: u32) -> Number
 }
 
 // A ROOM and BYTES: whether they can be read, the room, and how many bytes, which stand at the front of a lent buffer.
-#[derive(Drop)]
+#[derive(Clone, Copy)]
 pub struct Arguments {
     pub right: bool,
     pub room: usize,

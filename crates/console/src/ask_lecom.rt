@@ -8,7 +8,7 @@ use lecom_master::request::{Request, Task};
 use lines::line;
 
 // The request last asked: whether there is one, and which.
-#[derive(Drop)]
+#[derive(Clone, Copy)]
 pub struct Asked {
     pub asked: bool,
     pub request: Request,

@@ -8,7 +8,7 @@ use lines::line;
 use love_master::request::{Request, Task};
 
 // The request last asked: whether there is one, and which.
-#[derive(Drop)]
+#[derive(Clone, Copy)]
 pub struct Asked {
     pub asked: bool,
     pub request: Request,

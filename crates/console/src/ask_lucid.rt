@@ -12,7 +12,7 @@ use lucid_master::request::{Command, Request};
 const COUNT_MOST: usize = CHANNELS + 1;
 
 // The request last asked: whether there is one, which, and the values that it sends.
-#[derive(Drop)]
+#[derive(Clone, Copy)]
 pub struct Asked {
     pub asked: bool,
     pub request: Request,
@@ -44,7 +44,7 @@ pub fn none() -> Asked {
 }
 
 // A command by its name: whether there is one, and which.
-#[derive(Drop)]
+#[derive(Clone, Copy)]
 struct Named {
     right: bool,
     command: Command,
@@ -100,7 +100,7 @@ fn command_of(name: &[u8]) -> Named {
 }
 
 // Numbers to the end of a line: whether all can be read, how many count, and the first four of them.
-#[derive(Drop)]
+#[derive(Clone, Copy)]
 struct Numbers {
     right: bool,
     values: Group,

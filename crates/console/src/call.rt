@@ -8,7 +8,7 @@ pub const CALLS: [u8; 857] =
     *b"probe CHANNEL CODE; restart; governor CHANNEL; datalink ROOM BYTES; lecom ROOM BYTES; love ROOM BYTES; lucid ROOM BYTES; receive DIALECT ROOM BYTES; quiet DIALECT; save ROOM; load BYTES; request change IA ADDRESS BYTES; request bits IA ADDRESS MASKS / STATES; step ROOM BYTES; ask lecom ROOM ADDRESS read CODE; ask lecom ROOM ADDRESS write CODE VALUE; ask love ROOM ADDRESS status; ask love ROOM ADDRESS read PLACE; ask love ROOM ADDRESS write PLACE VALUE; ask lucid ROOM getio CHANNEL TYPE; ask lucid ROOM getiogroup MASK TYPE; ask lucid ROOM setio CHANNEL TYPE VALUE; ask lucid ROOM setiogroup MASK TYPE VALUES; ask lucid ROOM getparam CHANNEL OPTION ADDRESS; ask lucid ROOM setparam CHANNEL OPTION ADDRESS VALUE; ask lucid ROOM reset CHANNEL OPTION ADDRESS; reply lecom BYTES; reply love BYTES; reply lucid BYTES; poke TABLE PLACE VALUE; peek TABLE; help";
 
 // A call of an entry of the card: card_calls.rt.
-#[derive(Drop)]
+#[derive(Clone, Copy)]
 pub enum CardCall {
     Probe,
     Restart,
@@ -17,42 +17,42 @@ pub enum CardCall {
 }
 
 // A call of the receivers' entries: receiver_calls.rt.
-#[derive(Drop)]
+#[derive(Clone, Copy)]
 pub enum ReceiverCall {
     Receive,
     Quiet,
 }
 
 // A call of the image's entries: image_calls.rt.
-#[derive(Drop)]
+#[derive(Clone, Copy)]
 pub enum ImageCall {
     Save,
     Load,
 }
 
 // A call of the line master: exchange.rt.
-#[derive(Drop)]
+#[derive(Clone, Copy)]
 pub enum ExchangeCall {
     Request,
     Step,
 }
 
 // A call of the masters of LECOM, Love and LucidControl: master_calls.rt.
-#[derive(Drop)]
+#[derive(Clone, Copy)]
 pub enum MasterCall {
     Ask,
     Reply,
 }
 
 // A call on the tables: table_calls.rt.
-#[derive(Drop)]
+#[derive(Clone, Copy)]
 pub enum TableCall {
     Poke,
     Peek,
 }
 
 // What a line asks: a call, by what it touches; or none, where it asks nothing, is too long to be read or has an unknown name.
-#[derive(Drop)]
+#[derive(Clone, Copy)]
 pub enum Call {
     Nothing,
     TooLong,

@@ -12,7 +12,7 @@ use master::request::{Kind, Request};
 use master::{Phase, StepOutcome, Verdict};
 
 // A request and how far its exchange went. The bytes asked for, or the masks, and the states stand at the front of two lent buffers.
-#[derive(Drop)]
+#[derive(Clone, Copy)]
 pub struct Exchange {
     pub asked: bool,
     pub kind: Kind,
@@ -24,7 +24,7 @@ pub struct Exchange {
 }
 
 // A call's answer line, and the exchange after it.
-#[derive(Drop)]
+#[derive(Clone, Copy)]
 pub struct Answer {
     pub len: usize,
     pub exchange: Exchange,
@@ -46,7 +46,7 @@ pub fn none() -> Exchange
 }
 
 // Two runs of bytes read from a line: whether they can be read, and how many each has.
-#[derive(Drop)]
+#[derive(Clone, Copy)]
 struct Sent {
     right: bool,
     sent: usize,
@@ -88,7 +88,7 @@ fn read_sent(
 }
 
 // The kind of a request by its first word: whether there is one, which, and where the next word starts.
-#[derive(Drop)]
+#[derive(Clone, Copy)]
 struct Form {
     right: bool,
     kind: Kind,

@@ -10,7 +10,7 @@ pub const READ_MOST: usize = 65_536;
 
 // Where reading stands: the bytes of the buffer from at to end are still to be taken; n bytes of the line have come, and whether
 // it is whole; whether the input is over, and whether that is because it could not be read.
-#[derive(Drop)]
+#[derive(Clone, Copy)]
 pub struct Input {
     pub at: usize,
     pub end: usize,

@@ -10,7 +10,7 @@ use receive::Dialect;
 use tables::dialect;
 
 // The request last asked in each dialect.
-#[derive(Drop)]
+#[derive(Clone, Copy)]
 pub struct Asked {
     pub lecom: ask_lecom::Asked,
     pub love: ask_love::Asked,
@@ -18,7 +18,7 @@ pub struct Asked {
 }
 
 // A call's answer line, and the requests after it.
-#[derive(Drop)]
+#[derive(Clone, Copy)]
 pub struct Answer {
     pub len: usize,
     pub asked: Asked,

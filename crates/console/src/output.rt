@@ -21,7 +21,7 @@ pub fn hold(held: &mut [u8; HELD_MOST], n: usize, answer: &[u8; ANSWER_MOST], le
 }
 
 // How many bytes are held on, and whether those that are not could be written.
-#[derive(Drop)]
+#[derive(Clone, Copy)]
 pub struct Kept {
     pub held: usize,
     pub written: bool,

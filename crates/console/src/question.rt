@@ -10,7 +10,7 @@ use lines::line;
 const NOTE: u8 = b'#';
 
 // What a line asks: its call, where the call's name starts and stops, where the words after it start, and where the line ends.
-#[derive(Drop)]
+#[derive(Clone, Copy)]
 pub struct Question {
     pub call: Call,
     pub from: usize,

@@ -20,7 +20,7 @@ use card::layout::{MEMORY, ROW, WORDS};
 use lines::{ANSWER_MOST, BYTES_MOST, LINE_MOST, UNREAD, text, usage};
 
 // Whether the console goes on; and if not, why.
-#[derive(Drop)]
+#[derive(Clone, Copy)]
 pub enum Going {
     On,
     Over,
@@ -30,7 +30,7 @@ pub enum Going {
 
 // Where the console stands: whether it goes on, how many bytes of answers are held, what is read, the line master's exchange, and the
 // requests last asked of the other masters.
-#[derive(Drop)]
+#[derive(Clone, Copy)]
 pub struct State {
     pub going: Going,
     pub held: usize,
@@ -40,7 +40,7 @@ pub struct State {
 }
 
 // What a call leaves: the length of its answer line, and the masters.
-#[derive(Drop)]
+#[derive(Clone, Copy)]
 struct Left {
     len: usize,
     exchange: Exchange,

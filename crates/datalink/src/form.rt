@@ -2,7 +2,7 @@
 ghost use Rattle.std.specs.Prelude.{◌≡◌};
 ghost use Rattle.datalink.specs.Form.{length_right};
 
-#[derive(Drop)]
+#[derive(Clone, Copy)]
 pub struct Datalink {}
 
 impl Datalink {

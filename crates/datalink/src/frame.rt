@@ -12,7 +12,7 @@ use card::numbers::{
 };
 
 // What a frame asks.
-#[derive(Drop)]
+#[derive(Clone, Copy)]
 pub enum Order {
     // Refused with a number, and no bytes are sent.
     Silent(u8),

@@ -206,7 +206,7 @@ pub fn put_text(out: &mut [u8], at: usize, w: u32) -> usize
 }
 
 // What a signed decimal is read as.
-#[derive(Drop)]
+#[derive(Clone, Copy)]
 pub enum Parsed {
     Value(u32),
     Wrong,

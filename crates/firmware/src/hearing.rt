@@ -8,7 +8,7 @@ use card::numbers::DONE;
 
 // include/nakshvilor.h: nk_heard.
 #[repr(C)]
-#[derive(Drop)]
+#[derive(Clone, Copy)]
 pub struct HeardInC {
     pub number: u8,
     pub said: u8,

@@ -56,7 +56,7 @@ const REGISTER_RUN: usize = 3;
 const PARAMETER_RUN: usize = 4;
 
 // A run: how many words it holds, from which on, the bits of each one's field, and what is added to the word there.
-#[derive(Drop)]
+#[derive(Clone, Copy)]
 pub struct Run {
     pub word: usize,
     pub count: usize,

@@ -3,7 +3,7 @@
 ghost use Rattle.std.specs.Prelude.{◌≡◌};
 ghost use Rattle.lecom.specs.Form.{length_right, named_by, known, writable, free, takes};
 
-#[derive(Drop)]
+#[derive(Clone, Copy)]
 pub struct Lecom {}
 
 impl Lecom {
@@ -65,7 +65,7 @@ impl Lecom {
 }
 
 // What a code names: a register, the probe of a channel, one of the two commands, or nothing.
-#[derive(Drop)]
+#[derive(Clone, Copy)]
 pub enum Named {
     Register(u32),
     Probe(u32),

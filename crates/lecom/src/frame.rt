@@ -21,7 +21,7 @@ use wire::BYTE_VALUES;
 const TEN: u32 = DECIMAL as u32;
 
 // What a frame asks: nothing, with no byte sent; nothing, and the unit says so; the value of what is named; or a value for it.
-#[derive(Drop)]
+#[derive(Clone, Copy)]
 pub enum Order {
     Silent(u8),
     Refused(u8),
@@ -31,7 +31,7 @@ pub enum Order {
 
 // What judge and answer need of a frame: whether its address is collective, whether it is a write, whether its code is extended, and where the
 // code and its hex characters begin and end.
-#[derive(Drop)]
+#[derive(Clone, Copy)]
 pub struct Outline {
     pub collective: bool,
     pub write: bool,
@@ -141,7 +141,7 @@ fn pair_in(sheet: &Sheet, f: &[u8], at: usize) -> u32
 }
 
 // What a frame's code is: whether its characters are hex, and what it names then.
-#[derive(Drop)]
+#[derive(Clone, Copy)]
 struct Code {
     right: bool,
     named: Named,

@@ -8,14 +8,14 @@ use card::fitness::{FIGURE_VALUES, LECOM_MOST, REGISTER_LEAST, REGISTER_MOST};
 use lecom::form;
 
 // To read what a code names, or to write a value there, in two's complement. A code is its number: register 5 is 5, probe 0 is 60h.
-#[derive(Drop)]
+#[derive(Clone, Copy)]
 pub enum Task {
     Read(u32),
     Write(u32, u32),
 }
 
 // A task for the unit at an address, or for those that a collective address reaches.
-#[derive(Drop)]
+#[derive(Clone, Copy)]
 pub struct Request {
     pub address: u32,
     pub task: Task,

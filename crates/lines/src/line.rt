@@ -68,7 +68,7 @@ pub fn word_end(s: &[u8], at: usize) -> usize
 }
 
 // A word of a line: where it ends, and where the next one starts.
-#[derive(Drop)]
+#[derive(Clone, Copy)]
 pub struct Word {
     pub end: usize,
     pub next: usize,
@@ -108,7 +108,7 @@ fn number_in(word: &[u8]) -> u64
 }
 
 // A number read from a line: whether there is one, its value and where the next word starts.
-#[derive(Drop)]
+#[derive(Clone, Copy)]
 pub struct Number {
     pub right: bool,
     pub value: u32,
@@ -174,7 +174,7 @@ fn byte_at(sheet: &Sheet, s: &[u8], at: usize) -> u32
 }
 
 // Bytes read from a line: how many there are, and where the first word starts that is none.
-#[derive(Drop)]
+#[derive(Clone, Copy)]
 pub struct Bytes {
     pub count: usize,
     pub next: usize,

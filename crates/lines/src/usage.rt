@@ -18,7 +18,7 @@ fn usage_end(list: &[u8], from: usize) -> usize
 }
 
 // A usage line in a list: where it ends, and where the next one starts or the list ends.
-#[derive(Drop)]
+#[derive(Clone, Copy)]
 struct Usage {
     end: usize,
     next: usize,

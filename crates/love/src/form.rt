@@ -5,7 +5,7 @@ ghost use Rattle.love.specs.Form.{length_right, filter_of};
 
 use card::fitness::LOVE_HUNDRED;
 
-#[derive(Drop)]
+#[derive(Clone, Copy)]
 pub struct Love {}
 
 impl Love {

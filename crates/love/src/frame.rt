@@ -17,7 +17,7 @@ use figures::sheet::Sheet;
 use figures::{HEX, NO_BYTE, NO_VALUE, UPPER_HEX, all_figures};
 
 // What a frame asks.
-#[derive(Drop)]
+#[derive(Clone, Copy)]
 pub enum Order {
     // Refused with a number, and no bytes are sent.
     Silent(u8),

@@ -8,7 +8,7 @@ use card::layout::{LOVE, LOVE_COUNT};
 
 // To ask for probe 0 and its status; to read a parameter; or to write one, in tenths and two's complement. A parameter is its place: 0 to 3 for
 // SP1, SP2, ALLO, ALHI.
-#[derive(Drop)]
+#[derive(Clone, Copy)]
 pub enum Task {
     Status,
     Read(u32),
@@ -16,7 +16,7 @@ pub enum Task {
 }
 
 // A task for the unit at an address.
-#[derive(Drop)]
+#[derive(Clone, Copy)]
 pub struct Request {
     pub address: u32,
     pub task: Task,

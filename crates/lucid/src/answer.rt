@@ -26,7 +26,7 @@ const WORD_VALUES: u64 = 0x1_0000_0000;
 const HUNDREDTHS_PER_TENTH: u64 = 10;
 
 // Hundredths of a degree, in two's complement.
-#[derive(Drop)]
+#[derive(Clone, Copy)]
 struct Hundredths(u32);
 
 impl Hundredths {

@@ -2,7 +2,7 @@
 ghost use Rattle.std.specs.Prelude.{◌≡◌, ◌≤◌};
 ghost use Rattle.lucid.specs.Form.{length_right, hundredths_size, size_of};
 
-#[derive(Drop)]
+#[derive(Clone, Copy)]
 pub struct Lucid {}
 
 impl Lucid {

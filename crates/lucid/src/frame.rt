@@ -21,7 +21,7 @@ pub const PAIR_VALUES: u32 = BYTE_VALUES * BYTE_VALUES;
 // A channel's parameters.
 const EACH: u8 = PARAMETERS_EACH as u8;
 
-#[derive(Drop)]
+#[derive(Clone, Copy)]
 pub enum Order {
     // A refusal with no byte on the wire: the number.
     Silent(u8),

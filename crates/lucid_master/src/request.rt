@@ -16,7 +16,7 @@ const RESET: u32 = Lucid::DEFAULT as u32;
 const RESET_SAVED: u32 = Lucid::DEFAULT as u32 + Lucid::PERSISTENT as u32;
 
 // A reset is a SetParam with option bit 01h.
-#[derive(Drop)]
+#[derive(Clone, Copy)]
 pub enum Command {
     GetIo,
     GetIoGroup,
@@ -28,7 +28,7 @@ pub enum Command {
 }
 
 // P1 is a channel, of a group a mask; P2 a type or an option; the address a parameter's. The values that it sends are lent beside it.
-#[derive(Drop)]
+#[derive(Clone, Copy)]
 pub struct Request {
     pub command: Command,
     pub p1: u32,

@@ -26,15 +26,15 @@ bits_same (suc k) x y h g f =
     let high : x / 2 ≡ y / 2 = bits_same k (x / 2) (y / 2) (omega arith) (omega arith) (λ b. f (suc b)) in
     omega arith
 
-bit_and : (b x y : ℕ) → bit_of (bit_and x y) b ≡ min (bit_of x b) (bit_of y b)
+bit_and_law : (b x y : ℕ) → bit_of (bit_and x y) b ≡ min (bit_of x b) (bit_of y b)
 unfolding bit_of
-bit_and zero x y = let e = and_step x y in omega arith
-bit_and (suc b) x y = ap (λ (n : ℕ). bit_of n b) (and_shr x y 1) ∙ bit_and b (x / 2) (y / 2)
+bit_and_law zero x y = let e = and_step x y in omega arith
+bit_and_law (suc b) x y = ap (λ (n : ℕ). bit_of n b) (and_shr x y 1) ∙ bit_and_law b (x / 2) (y / 2)
 
-bit_or : (b x y : ℕ) → bit_of (bit_or x y) b ≡ max (bit_of x b) (bit_of y b)
+bit_or_law : (b x y : ℕ) → bit_of (bit_or x y) b ≡ max (bit_of x b) (bit_of y b)
 unfolding bit_of
-bit_or zero x y = let e = or_step x y in omega arith
-bit_or (suc b) x y = ap (λ (n : ℕ). bit_of n b) (or_shr x y 1) ∙ bit_or b (x / 2) (y / 2)
+bit_or_law zero x y = let e = or_step x y in omega arith
+bit_or_law (suc b) x y = ap (λ (n : ℕ). bit_of n b) (or_shr x y 1) ∙ bit_or_law b (x / 2) (y / 2)
 
 -- (old AND mask) OR state
 
@@ -42,7 +42,7 @@ abbrev masked : ℕ → ℕ → ℕ → ℕ
 masked x m s = bit_or (bit_and x m) s
 
 bit_masked : (b x m s : ℕ) → bit_of (masked x m s) b ≡ max (min (bit_of x b) (bit_of m b)) (bit_of s b)
-bit_masked b x m s = bit_or b (bit_and x m) s ∙ ap (λ (n : ℕ). max n (bit_of s b)) (bit_and b x m)
+bit_masked b x m s = bit_or_law b (bit_and x m) s ∙ ap (λ (n : ℕ). max n (bit_of s b)) (bit_and_law b x m)
 
 -- a forced bit is the state's, whatever was there
 forced_state : (b x m s : ℕ) → Forced m s b → bit_of (masked x m s) b ≡ bit_of s b

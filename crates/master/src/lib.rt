@@ -15,7 +15,7 @@ use datalink::form::Datalink;
 use request::Request;
 
 // Where an exchange stands: the frame last sent, or how it ended.
-#[derive(Drop)]
+#[derive(Clone, Copy)]
 pub enum Phase {
     New,
     Changing,
@@ -26,7 +26,7 @@ pub enum Phase {
 }
 
 // What the master says: nothing yet, done or unknown.
-#[derive(Drop)]
+#[derive(Clone, Copy)]
 pub enum Verdict {
     Open,
     Done,
@@ -34,7 +34,7 @@ pub enum Verdict {
 }
 
 // What a step gives: its number, the length of the frame that it sends, and the phase to hand to the next step.
-#[derive(Drop)]
+#[derive(Clone, Copy)]
 pub struct StepOutcome {
     pub number: u8,
     pub len: usize,

@@ -17,7 +17,7 @@ use love::form::Love;
 use lucid::form::Lucid;
 use receiver::Place;
 
-#[derive(Drop)]
+#[derive(Clone, Copy)]
 pub enum Dialect {
     Datalink,
     Lecom,
@@ -26,7 +26,7 @@ pub enum Dialect {
 }
 
 // What a call of receive gives: its number, how many bytes it took, and the length of the frame that it hands over.
-#[derive(Drop)]
+#[derive(Clone, Copy)]
 pub struct Received {
     pub number: u8,
     pub taken: usize,
@@ -144,7 +144,7 @@ fn sure(dialect: Dialect, part: &[u8]) -> usize
 }
 
 // What a byte leaves: so many bytes collected, or a finished frame.
-#[derive(Drop)]
+#[derive(Clone, Copy)]
 enum Fed {
     Open(usize),
     Finished,
@@ -206,7 +206,7 @@ fn skip(dialect: Dialect, ports: &mut [u8], n: usize, bytes: &[u8]) -> usize
 }
 
 // What a call did: how many bytes it took, the length of the frame that it finished, 0 for none, and how many bytes are then collected.
-#[derive(Drop)]
+#[derive(Clone, Copy)]
 struct Gathered {
     taken: usize,
     len: usize,

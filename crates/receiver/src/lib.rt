@@ -4,7 +4,7 @@ ghost use Rattle.receiver.specs.Step.{among};
 
 // Where a byte goes: behind the part frame; first, and what was collected is dropped; nowhere, and what was collected is dropped; or it is the
 // last byte of a frame.
-#[derive(Drop)]
+#[derive(Clone, Copy)]
 pub enum Place {
     Behind,
     First,

@@ -6,7 +6,7 @@ use lines::line;
 use receive::Dialect;
 
 // A word as a dialect's name: whether it is one, of which dialect, and where the next word starts.
-#[derive(Drop)]
+#[derive(Clone, Copy)]
 pub struct Spoken {
     pub right: bool,
     pub dialect: Dialect,

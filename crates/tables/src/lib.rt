@@ -32,7 +32,7 @@ fn read_value(s: &[u8], at: usize, entry: usize) -> Number
 }
 
 // What poke asks for: whether it can be read, the entry and its value.
-#[derive(Drop)]
+#[derive(Clone, Copy)]
 struct Change {
     right: bool,
     entry: usize,

@@ -19,7 +19,7 @@ pub(crate) const CHANGE_FROM: usize = ROW_FROM + KIND_PLACE;
 pub(crate) const CHANGE_DATA: usize = 3;
 
 // A run of entries: the first, and how many.
-#[derive(Drop)]
+#[derive(Clone, Copy)]
 pub(crate) struct Span(pub(crate) usize, pub(crate) usize);
 
 // The tables of LECOM registers.
@@ -97,7 +97,7 @@ fn part_of(dialect: Dialect) -> Span
 }
 
 // A table named in a line: its entries, and where the line's next word starts.
-#[derive(Drop)]
+#[derive(Clone, Copy)]
 pub(crate) struct Table {
     pub(crate) first: usize,
     pub(crate) count: usize,
