@@ -1,5 +1,7 @@
 // What the masters of LECOM, Love and LucidControl share: what they hear in a reply, how they compare one, and a made frame into a lent buffer.
 // Document 02, M-102.
+#![tactic(auto)]
+
 ghost use Rattle.std.specs.Prelude.{◌≡◌, ◌<◌, ◌≤◌, [], ◌∷◌, length, take};
 ghost use Rattle.card.specs.Layout.{channels};
 ghost use Rattle.card.specs.Reply.{Told};

@@ -1,5 +1,7 @@
 // Fields of a bit-packed image, most significant bit first: read by one reader, through a window of eight bytes, and written one after
 // another, through a word that holds the bits not yet written.
+#![tactic(auto)]
+
 ghost use Rattle.std.specs.Prelude.{◌≡◌, ℕ, ◌+◌, ◌*◌, ◌/◌, ◌%◌, ◌^◌, ◌<◌, ◌≤◌, length, replicate};
 ghost use Rattle.bits.specs.Bits.{byte_values, field, put_field, widest, longest, window_bytes, window_bits, Within};
 ghost use Rattle.bits.specs.Fields.{fields, WithinAll};

@@ -1,4 +1,6 @@
 // The card's tables, their fitness, the probe reading, and the entries set code, restart and governor.
+#![tactic(auto)]
+
 pub mod change;
 pub mod entries;
 pub mod fitness;

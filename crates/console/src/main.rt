@@ -1,4 +1,6 @@
 // The console: reads calls from standard input, a line each, and writes an answer line for each. docs/CONSOLE.md.
+#![tactic(auto)]
+
 mod arguments;
 mod ask_lecom;
 mod ask_love;

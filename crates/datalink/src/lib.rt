@@ -1,4 +1,6 @@
 // The Datalink dialect. Document 01, "Datalink"; source document 003.
+#![tactic(auto)]
+
 mod answer;
 pub mod collect;
 pub mod form;

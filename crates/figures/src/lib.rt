@@ -1,4 +1,6 @@
 // Hex figures, decimal figures and signed words: read from characters and written as characters.
+#![tactic(auto)]
+
 pub mod sheet;
 
 ghost use Rattle.std.specs.Prelude.{◌≡◌, ◌+◌, ◌<◌, ◌≤◌, length};

@@ -1,4 +1,6 @@
 // The card's entries for firmware in C: thin, each with the whole contract of the entry below it. include/nakshvilor.h describes them.
+#![tactic(auto)]
+
 mod hearing;
 mod lecom_entries;
 mod love_entries;

@@ -1,4 +1,6 @@
 // The saved image: the entries that write and read it. Document 01, "The saved image".
+#![tactic(auto)]
+
 mod form;
 
 ghost use Rattle.std.specs.Prelude.{◌≡◌, ◌+◌, ◌<◌, ◌≤◌, length};

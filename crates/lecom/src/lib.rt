@@ -1,4 +1,6 @@
 // The LECOM dialect. Document 01, "LECOM"; source document 001.
+#![tactic(auto)]
+
 mod answer;
 pub mod collect;
 pub mod form;

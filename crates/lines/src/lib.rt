@@ -1,4 +1,6 @@
 // The console's lines: words, numbers and bytes read from a line, the parts of an answer line, and the usage of calls. docs/CONSOLE.md.
+#![tactic(auto)]
+
 pub mod heard;
 pub mod line;
 pub mod text;

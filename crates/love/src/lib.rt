@@ -1,4 +1,6 @@
 // The Love dialect. Document 01, "Love"; source document 004.
+#![tactic(auto)]
+
 pub mod answer;
 pub mod collect;
 pub mod form;

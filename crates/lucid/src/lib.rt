@@ -1,4 +1,6 @@
 // The LucidControl dialect. Document 01, "LucidControl"; document 02, M-103; source document 002.
+#![tactic(auto)]
+
 mod answer;
 pub mod collect;
 pub mod form;

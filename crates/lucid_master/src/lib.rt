@@ -1,4 +1,6 @@
 // LucidControl's master: it makes a request's frame, and reads the reply. Document 02, M-102.
+#![tactic(auto)]
+
 mod frames;
 mod hear;
 pub mod request;

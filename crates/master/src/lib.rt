@@ -1,4 +1,6 @@
 // The Datalink line master. Document 01, "Datalink", second half.
+#![tactic(auto)]
+
 mod accept;
 mod answer;
 mod frame;

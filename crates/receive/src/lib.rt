@@ -1,4 +1,6 @@
 // The receivers' entries: bytes reach the card as they come. Document 02, M-100. The dialects' own rules are in their crates, module collect.
+#![tactic(auto)]
+
 ghost use Rattle.std.specs.Prelude.{◌≡◌, true, ◌++◌, ◌∷◌, [], ◌<◌, ◌≤◌, length};
 ghost use Rattle.receiver.specs.Place.{Placed, Sure};
 ghost use Rattle.card.specs.Layout.{card_of, row_size};

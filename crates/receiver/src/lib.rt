@@ -1,4 +1,6 @@
 // What a receiver is (specs), what holds of every one (proofs), and what the receivers of the dialects share. Each dialect has a step of its own.
+#![tactic(auto)]
+
 ghost use Rattle.std.specs.Prelude.{◌≡◌};
 ghost use Rattle.receiver.specs.Step.{among};
 

@@ -1,4 +1,6 @@
 // The tables by name and place, for poke and peek; and the dialects by name. docs/CONSOLE.md.
+#![tactic(auto)]
+
 pub mod dialect;
 mod entry;
 mod table;

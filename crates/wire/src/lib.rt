@@ -1,4 +1,6 @@
 // Leaves over byte slices that every dialect uses.
+#![tactic(auto)]
+
 ghost use Rattle.std.specs.Prelude.{◌≡◌, ◌+◌, ◌≤◌, ◌⊎◌, length};
 ghost use Rattle.wire.specs.Buffer.{put, part, same};
 ghost use Rattle.wire.specs.Sum.{sum_of};

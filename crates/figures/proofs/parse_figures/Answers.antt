@@ -1,0 +1,27 @@
+-- `figures::parse_figures` meets its contract: what is no number is read as more than any bound. Assumes nothing.
+use mathlib.Core.Path.{ap}
+use mathlib.Core.Bool.{not}
+use native.Mathlib.Omega.{arith}
+use borrow.Author.Tests.{ne_eqb}
+use Rattle.wire.proofs.Cases.{cases, no}
+use Rattle.figures.specs.Signed.{figures_of}
+use Rattle.figures.proofs.Decimals.{read_some}
+use Rattle.figures.proofs.Texts.{beyond_refused}
+use borrow.Author.Rules.{rules}
+use Rattle.figures.proofs.parse_figures.Goals as goal
+
+pub returns-then-s-eq0 : goal.returns-then-s-eq0
+unfolding figures_of
+returns-then-s-eq0 c = search cases
+
+pub returns-then-bound-v : goal.returns-then-bound-v
+unfolding figures_of
+returns-then-bound-v c = let a = c.args in
+    no _ _ _ _ (ne_eqb _ _ c.if-s-eq0.false) (beyond_refused a.bound a.s.now _ (omega (arith, c.value-v.ensures)))
+
+pub returns : goal.returns
+unfolding figures_of
+returns c = let a = c.args in
+    let read = read_some a.s.now (λ e. omega (arith, e, c.value-v.ensures)) in
+    no _ _ _ _ (ne_eqb _ _ c.if-s-eq0.false)
+    (no _ _ _ _ (ap not read.0) (rw (← read.1, ← c.value-v.ensures) (search cases)))

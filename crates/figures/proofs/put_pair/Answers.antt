@@ -1,0 +1,17 @@
+-- `figures::put_pair` meets its contract: two stores are a list of two put there. Assumes nothing.
+use lib.ListN.{length-set}
+use mathlib.Core.List.{[], ◌∷◌}
+use native.Mathlib.Omega.{arith}
+use native.Mathlib.Numerals.{add-one}
+use Rattle.wire.proofs.Buffers.{put_sets}
+use Rattle.figures.specs.Figure.{pair_of}
+use borrow.Author.Rules.{rules}
+use Rattle.figures.proofs.put_pair.Goals as goal
+
+pub bounds-out-at-2 : goal.bounds-out-at-2
+bounds-out-at-2 c = simp length-set (omega arith)
+
+pub returns : goal.returns
+unfolding pair_of
+returns c = let a = c.args in
+    rw (c.figure_char.ensures, c.figure_char-2.ensures) (rw add-one (put_sets (_ ∷ _ ∷ []) a.out.now a.at (search rules)))

@@ -1,0 +1,11 @@
+-- `wire::copy` meets its contract. The invariant: `dst` is as it came with the first i bytes of `src` pasted at `at`. Assumes nothing.
+use Rattle.std.proofs.Common.{◌≡◌, ◌-◌, ◌≤◌, length, take, append_assoc, add-one, arith, length-set, rules}
+use lib.Seq.{paste, paste-zero, paste-suc, take-length}
+use Rattle.wire.specs.Buffer.{put}
+use Rattle.wire.proofs.copy.Given as goal
+
+abbrev pub invariant-loop-i : goal.invariant-loop-i
+invariant-loop-i l = (l.i ≤ length l.src) × ((length l.dst ≡ length l.initial.dst) × (l.dst ≡ paste l.initial.dst l.at l.src l.i))
+
+abbrev pub decreases-loop-i : goal.decreases-loop-i
+decreases-loop-i l = length l.src - l.i

@@ -1,0 +1,11 @@
+-- `wire::is_same` meets its contract. The invariant: ok tells of the first i bytes. Assumes nothing.
+use Rattle.std.proofs.Common.{◌≡◌, ◌-◌, ◌≤◌, ◌&&◌, length, drop, sym, refl, ◌∙◌, add-one, arith}
+use Rattle.wire.specs.Buffer.{same}
+use Rattle.wire.proofs.Same.{same_next, same_end}
+use Rattle.wire.proofs.is_same.Given as goal
+
+abbrev pub invariant-loop-i : goal.invariant-loop-i
+invariant-loop-i l = (l.i ≤ length l.a) × (same l.a l.b ≡ (l.ok && same (drop l.i l.a) (drop l.i l.b)))
+
+abbrev pub decreases-loop-i : goal.decreases-loop-i
+decreases-loop-i l = length l.a - l.i

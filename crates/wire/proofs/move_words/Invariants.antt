@@ -1,0 +1,12 @@
+-- `wire::move_words` meets its contract. The invariant: the words are as they came with the first i of the run pasted at `to`. Assumes nothing.
+use Rattle.std.proofs.Common.{◌≡◌, ◌+◌, ◌-◌, ◌≤◌, length, refl, add-one, arith, length-set, rules}
+use lib.Seq.{paste, paste-zero}
+use Rattle.wire.specs.Buffer.{part}
+use Rattle.wire.proofs.Moves.{turn, done}
+use Rattle.wire.proofs.move_words.Given as goal
+
+abbrev pub invariant-loop-i : goal.invariant-loop-i
+invariant-loop-i l = (l.i ≤ l.n) × ((length l.words ≡ length l.initial.words) × (l.words ≡ paste l.initial.words l.to (part l.initial.words l.from (l.from + l.n)) l.i))
+
+abbrev pub decreases-loop-i : goal.decreases-loop-i
+decreases-loop-i l = l.n - l.i

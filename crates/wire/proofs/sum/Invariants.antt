@@ -1,0 +1,11 @@
+-- `wire::sum` meets its contract. The invariant: `sum` is the sum of the bytes passed, modulo 256. Assumes nothing.
+use Rattle.std.proofs.Common.{◌≡◌, ◌-◌, ◌%◌, ◌≤◌, length, take, add-one, arith, take_all, rules}
+use Rattle.wire.specs.Sum.{total, sum_of}
+use Rattle.wire.proofs.Sums.{total_suc}
+use Rattle.wire.proofs.sum.Given as goal
+
+abbrev pub invariant-loop-i : goal.invariant-loop-i
+invariant-loop-i l = (l.i ≤ length l.s) × (l.sum ≡ total (take l.i l.s) % 256)
+
+abbrev pub decreases-loop-i : goal.decreases-loop-i
+decreases-loop-i l = length l.s - l.i
