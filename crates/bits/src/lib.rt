@@ -103,7 +103,7 @@ pub fn read_fields(out: &mut [u32], image: &[u8], place: usize, width: usize)
 }
 
 // A reader of an image: the image, and the place of its next bit.
-// Its functions are thin, since each is proved by hand; the work is done on a slice and a place.
+// Its functions are thin: the work is done on a slice and a place.
 #[derive(Clone, Copy)]
 pub struct BitReader<'a> {
     pub image: &'a [u8],

@@ -1,6 +1,5 @@
 pub mod Words
 pub mod Runs
-pub mod Again
 pub mod Walking
 pub mod Whole
 pub mod Ranges

@@ -3,23 +3,19 @@ use Rattle.std.proofs.Common.{◌≡◌, ℕ, ◌≤◌, refl, arith}
 use Rattle.wire.proofs.Sweep.{by_four}
 use Rattle.image.specs.Form.{run, entries_in, saved_runs}
 use Rattle.image.specs.Scans.{first_of}
-use Rattle.image.proofs.form.first_at.Statement.{statement}
-use Rattle.image.proofs.form.first_at.Tie as tie
+use Rattle.image.proofs.form.first_at.Goals as goal
 
 first : (k : ℕ) → k ≤ 3 → k ≡ first_of k
 unfolding first_of saved_runs entries_in run
 first k h = by_four (λ n. n ≡ first_of n) refl refl refl refl k (omega arith)
 
-returns : tie.Need-returns
-returns c = first c.before.args.k c.if1.true
+pub returns-then-k-le-REGISTER_RUN : goal.returns-then-k-le-REGISTER_RUN
+returns-then-k-le-REGISTER_RUN c = first c.args.k c.if-k-le-REGISTER_RUN.true
 
-returns-2 : tie.Need-returns-2
+pub returns-then-k-eq-PARAMETER_RUN : goal.returns-then-k-eq-PARAMETER_RUN
 unfolding first_of saved_runs entries_in run
-returns-2 c = rw c.if2.true
+returns-then-k-eq-PARAMETER_RUN c = rw c.if-k-eq-PARAMETER_RUN.true
 
-returns-3 : tie.Need-returns-3
+pub returns : goal.returns
 unfolding first_of saved_runs entries_in run
-returns-3 c = let e : c.before.before.args.k ≡ 5 = omega arith in rw e
-
-pub first-at-spec : {M : Type 1} → statement M
-first-at-spec = tie.close (tie.spec returns returns-2 returns-3)
+returns c = let e : c.args.k ≡ 5 = omega arith in rw e
