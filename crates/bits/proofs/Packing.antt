@@ -3,7 +3,7 @@
 use Rattle.std.proofs.Common.{◌≡◌, ℕ, ◌+◌, ◌-◌, ◌*◌, ◌/◌, ◌%◌, ◌^◌, ◌<◌, ◌≤◌, List, length, sym, ap, ◌∙◌, inl, inr, mod-lt, arith, pow_pos}
 use native.Mathlib.Decide.{dec_lt}
 use lib.Pow.{high, low, mod-mod-pow}
-use Rattle.bits.specs.Bits.{bit, field, put_field}
+use Rattle.bits.specs.Bits.{bit, put_field}
 use Rattle.bits.proofs.Reading.{Bytes, image_ext}
 use Rattle.bits.proofs.Writing.{length_put_field, put_field_bytes, bit_put_field_other, put_field_agree, put_field_append, put_field_cut}
 

@@ -1,22 +1,23 @@
--- What is heard in a reply to a read: its length is that of an answer, and its data are a value. Assumes nothing.
+-- What is heard in a reply: to a read, its length is that of an answer, and its data are a value; to a write, one byte. Assumes nothing.
 use Prim.Native.Nat.{ℕ, ◌+◌, ◌-◌, ◌<◌}
-use mathlib.Core.Path.{◌≡◌, refl, sym}
-use mathlib.Core.List.{List}
+use mathlib.Core.Path.{◌≡◌, refl, sym, ◌∙◌}
+use mathlib.Core.List.{List, [], ◌∷◌}
 use native.Mathlib.Omega.{arith}
 use borrow.Author.Tests.{eq-eqb, ne_eqb}
-use lib.ListN.{length, length-take, length-drop}
+use lib.ListN.{length, get_or, length-take, length-drop}
 use Rattle.wire.specs.Choose.{choose}
-use Rattle.wire.specs.Buffer.{part}
+use Rattle.wire.specs.Buffer.{part, same}
+use Rattle.wire.proofs.Pieces.{same_one}
 use Rattle.wire.proofs.Cases.{yes, no, by_choice}
 use Rattle.figures.specs.Signed.{longest_text, parsed_of}
 use Rattle.figures.specs.declared.Parsed.{Parsed}
 use Rattle.figures.specs.declared.Parsed.TheVariants.{Value, Wrong}
 use Rattle.figures.proofs.Texts.{text_length}
 use Rattle.card.specs.Numbers.{frame_form}
-use Rattle.lecom.specs.Form.{closing, data_least, named_by}
+use Rattle.lecom.specs.Form.{ack, closing, data_least, named_by}
 use Rattle.asking.specs.Against.{against}
 use Rattle.asking.specs.Hearing.{Hearing, heard_by}
-use Rattle.asking.specs.Hearing.Hearing.{Unread}
+use Rattle.asking.specs.Hearing.Hearing.{Done, Unread}
 use Rattle.lecom_master.specs.Heard.{data_at, check_size, answerable, answer_bytes, data_read, heard_value}
 use Rattle.lecom_master.proofs.Requests.{checked_length}
 
@@ -41,3 +42,7 @@ long_heard code r (Value value) h =
     let a = answer_bytes code value in
     let e : against check_size check_size r a ≡ frame_form = apart check_size check_size r a (λ n. omega (arith, n, checked_length code value, text_length value)) in
     by_choice (λ (x : Hearing). Unread frame_form ≡ x) (answerable (named_by code) value) _ _ (λ _. rw e) (λ _. refl)
+
+-- a reply to a write that is one byte, and not ACK
+pub other_byte : (r : List ℕ) → length r ≡ 1 → (get_or r 0 0 ≡ ack → ⊥) → choose (same r (ack ∷ [])) Done (Unread frame_form) ≡ Unread frame_form
+other_byte r one n = sym (no _ _ _ _ (same_one r ack one ∙ ne_eqb _ _ n) refl)

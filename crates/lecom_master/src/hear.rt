@@ -92,6 +92,7 @@ fn hear_read(code: u32, reply: &[u8]) -> Heard
 }
 
 // What is heard in a reply to a write.
+#[tactic(auto, using(crate::proofs::Hearings::other_byte))]
 fn hear_write(reply: &[u8]) -> Heard
     ensures { hearing_of result ≡ choose (same reply.now (ack ∷ [])) Done (Unread frame_form) }
 {

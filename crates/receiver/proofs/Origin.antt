@@ -5,7 +5,7 @@ use mathlib.Core.List.{List, [], ◌∷◌, ◌++◌, append_assoc, append-nil}
 use mathlib.Core.Logic.{◌⊎◌}
 use mathlib.Core.Logic.◌⊎◌.{inl, inr}
 use Prim.{Unit}
-use Prim.Native.Nat.{ℕ, ◌+◌}
+use Prim.Native.Nat.{ℕ}
 use lib.Seq.{append_snoc}
 use Rattle.receiver.specs.Step.{Fate, Step, at_rest}
 use Rattle.receiver.specs.Step.Fate.{Kept, Dropped, Finished}

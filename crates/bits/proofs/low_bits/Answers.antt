@@ -1,5 +1,4 @@
-use Rattle.std.proofs.Common.{arith, pow_pos, rules}
-use Rattle.bits.proofs.low_bits.Reads as reads
+use Rattle.std.proofs.Common.{arith, pow_pos}
 use Rattle.bits.proofs.low_bits.Goals as goal
 
 pub nonzero_rem-result : goal.nonzero_rem-result

@@ -1,5 +1,5 @@
 -- `bits::middle` meets its contract. Assumes nothing.
-use Rattle.std.proofs.Common.{arith, pow_pos, rules}
+use Rattle.std.proofs.Common.{arith, pow_pos}
 use Rattle.bits.proofs.middle.Goals as goal
 
 pub nonzero_rem-result : goal.nonzero_rem-result

@@ -1,5 +1,5 @@
 -- `bits::put_field` meets its contract: the field is held, and a whole word of what is held goes to the image. Assumes nothing.
-use Rattle.std.proofs.Common.{◌≡◌, ℕ, ◌+◌, ◌-◌, ◌*◌, ◌/◌, ◌%◌, ◌^◌, List, sym, ap, ◌∙◌, arith, rules}
+use Rattle.std.proofs.Common.{◌≡◌, ℕ, ◌+◌, ◌-◌, ◌*◌, ◌/◌, ◌%◌, ◌^◌, List, sym, ap, ◌∙◌, arith}
 use Rattle.bits.specs.Bits.{put_field}
 use Rattle.bits.specs.Packing.{packed, place_of}
 use Rattle.bits.proofs.Reading.{Bytes}

@@ -1,5 +1,5 @@
 -- `bits::read_fields` meets its contract. The invariant: the fields read, and then those that are left, are all of them. Assumes nothing.
-use Rattle.std.proofs.Common.{◌≡◌, ℕ, suc, ◌+◌, ◌-◌, ◌<◌, ◌≤◌, List, [], ◌∷◌, ◌++◌, length, take, replicate, sym, refl, ap, ◌∙◌, append-nil, add-one, arith, length-set, take_all, take-suc-set, rules}
+use Rattle.std.proofs.Common.{◌≡◌, ℕ, suc, ◌+◌, ◌-◌, ◌<◌, List, [], ◌∷◌, ◌++◌, length, take, replicate, sym, refl, ap, ◌∙◌, append-nil, add-one, arith, length-set, take_all, take-suc-set}
 use native.Mathlib.Nat.{sub-zero}
 use lib.Seq.{append_snoc}
 use Rattle.bits.specs.Fields.{width_of, fields}

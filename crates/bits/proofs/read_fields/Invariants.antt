@@ -1,9 +1,6 @@
 -- `bits::read_fields` meets its contract. The invariant: the fields read, and then those that are left, are all of them. Assumes nothing.
-use Rattle.std.proofs.Common.{◌≡◌, ℕ, suc, ◌+◌, ◌-◌, ◌<◌, ◌≤◌, List, [], ◌∷◌, ◌++◌, length, take, replicate, sym, refl, ap, ◌∙◌, append-nil, add-one, arith, length-set, take_all, take-suc-set, rules}
-use native.Mathlib.Nat.{sub-zero}
-use lib.Seq.{append_snoc}
+use Rattle.std.proofs.Common.{◌≡◌, ◌+◌, ◌-◌, ◌≤◌, ◌++◌, length, take, replicate}
 use Rattle.bits.specs.Fields.{width_of, fields}
-use Rattle.bits.proofs.Sequences.{width_next, fields_next, fields_last}
 use Rattle.bits.proofs.read_fields.Given as goal
 
 abbrev pub invariant-loop-i : goal.invariant-loop-i

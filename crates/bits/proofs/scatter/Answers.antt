@@ -1,7 +1,6 @@
 -- `bits::scatter` meets its contract. The invariant: the bytes that are left to write, with what is left of the number, give the whole write. Assumes nothing.
-use Rattle.std.proofs.Common.{◌≡◌, ℕ, ◌+◌, ◌-◌, ◌*◌, ◌≤◌, length, sym, refl, ap, ◌∙◌, arith, length-set}
+use Rattle.std.proofs.Common.{◌≡◌, ℕ, ◌+◌, ◌-◌, ◌*◌, sym, refl, ap, ◌∙◌, arith, length-set}
 use Rattle.bits.specs.Bits.{put_field}
-use Rattle.bits.proofs.Reading.{Bytes}
 use Rattle.bits.proofs.Writing.{set_bytes, put_field_last, put_field_none}
 use Rattle.bits.proofs.scatter.Goals as goal
 

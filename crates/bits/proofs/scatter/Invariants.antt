@@ -1,8 +1,7 @@
 -- `bits::scatter` meets its contract. The invariant: the bytes that are left to write, with what is left of the number, give the whole write. Assumes nothing.
-use Rattle.std.proofs.Common.{◌≡◌, ℕ, ◌+◌, ◌-◌, ◌*◌, ◌≤◌, length, sym, refl, ap, ◌∙◌, arith, length-set}
+use Rattle.std.proofs.Common.{◌≡◌, ◌*◌, ◌≤◌, length}
 use Rattle.bits.specs.Bits.{put_field}
 use Rattle.bits.proofs.Reading.{Bytes}
-use Rattle.bits.proofs.Writing.{set_bytes, put_field_last, put_field_none}
 use Rattle.bits.proofs.scatter.Given as goal
 
 abbrev pub invariant-loop-left : goal.invariant-loop-left

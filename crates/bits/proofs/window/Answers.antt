@@ -1,5 +1,5 @@
 -- `bits::window` meets its contract. The invariant: the number so far is the field of the bytes passed; it is below 2 ^ 56, with at most seven of them. Assumes nothing.
-use Rattle.std.proofs.Common.{◌≡◌, ◌+◌, ◌-◌, ◌*◌, ◌^◌, ◌<◌, ◌≤◌, sym, refl, arith, pow_mono}
+use Rattle.std.proofs.Common.{◌≡◌, ◌+◌, ◌*◌, ◌^◌, ◌<◌, ◌≤◌, sym, refl, arith, pow_mono}
 use Rattle.bits.specs.Bits.{field, window_bytes}
 use Rattle.bits.proofs.Reading.{field_lt, field_bytes}
 use Rattle.bits.proofs.window.Goals as goal

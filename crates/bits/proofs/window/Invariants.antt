@@ -1,7 +1,6 @@
 -- `bits::window` meets its contract. The invariant: the number so far is the field of the bytes passed; it is below 2 ^ 56, with at most seven of them. Assumes nothing.
-use Rattle.std.proofs.Common.{◌≡◌, ◌+◌, ◌-◌, ◌*◌, ◌^◌, ◌<◌, ◌≤◌, sym, refl, arith, pow_mono}
+use Rattle.std.proofs.Common.{◌≡◌, ◌-◌, ◌*◌, ◌≤◌}
 use Rattle.bits.specs.Bits.{field, window_bytes}
-use Rattle.bits.proofs.Reading.{field_lt, field_bytes}
 use Rattle.bits.proofs.window.Given as goal
 
 abbrev pub invariant-loop-i : goal.invariant-loop-i

@@ -1,12 +1,7 @@
 -- `figures::all_figures` meets its contract. The invariant: ok tells of the first i characters. Assumes nothing.
-use mathlib.Core.Path.{◌≡◌, refl, sym, ◌∙◌}
-use mathlib.Core.Bool.{◌&&◌}
-use Prim.Native.Nat.{◌-◌, ◌≤◌}
+use mathlib.Core.Path.{refl, sym, ◌∙◌}
 use native.Mathlib.Numerals.{add-one}
 use native.Mathlib.Omega.{arith}
-use borrow.Author.Rules.{rules}
-use lib.ListN.{length, drop}
-use Rattle.figures.specs.Figure.{all_figures}
 use Rattle.figures.proofs.Characters.{all_next, all_end}
 use Rattle.figures.proofs.all_figures.Goals as goal
 

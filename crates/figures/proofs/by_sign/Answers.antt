@@ -1,5 +1,4 @@
 -- `figures::by_sign` meets its contract. Assumes nothing.
-use borrow.Author.Rules.{rules}
 use Rattle.wire.proofs.Cases.{yes, no, told_true, told_false}
 use mathlib.Core.Path.{refl}
 use Rattle.figures.proofs.by_sign.Goals as goal

@@ -3,7 +3,6 @@ use native.Mathlib.Omega.{arith}
 use Rattle.wire.proofs.Cases.{cases, yes, told_true}
 use Rattle.figures.specs.Signed.{magnitude}
 use Rattle.figures.proofs.Texts.{negative_at_least}
-use borrow.Author.Rules.{rules}
 use Rattle.figures.proofs.magnitude.Goals as goal
 
 pub overflow_add-result : goal.overflow_add-result

@@ -3,7 +3,6 @@ use mathlib.Core.Path.{refl}
 use borrow.Author.Tests.{lt-leb}
 use Rattle.wire.proofs.Cases.{cases, no}
 use Rattle.figures.specs.Figure.{pair_byte}
-use borrow.Author.Rules.{rules}
 use Rattle.figures.proofs.pair_byte.Goals as goal
 
 pub returns-then-limit-h : goal.returns-then-limit-h

@@ -8,7 +8,6 @@ use lib.ListN.{length, take, drop, length-drop}
 use lib.Seq.{take_all}
 use Rattle.wire.proofs.Cases.{cases, yes, no}
 use Rattle.figures.specs.Signed.{figures_of, parsed_of}
-use borrow.Author.Rules.{rules}
 use Rattle.figures.proofs.parse.Goals as goal
 
 pub returns-then-s-eq0 : goal.returns-then-s-eq0

@@ -7,7 +7,6 @@ use Rattle.wire.proofs.Cases.{cases, no}
 use Rattle.figures.specs.Signed.{figures_of}
 use Rattle.figures.proofs.Decimals.{read_some}
 use Rattle.figures.proofs.Texts.{beyond_refused}
-use borrow.Author.Rules.{rules}
 use Rattle.figures.proofs.parse_figures.Goals as goal
 
 pub returns-then-s-eq0 : goal.returns-then-s-eq0

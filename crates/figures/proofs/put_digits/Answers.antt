@@ -1,11 +1,9 @@
 -- `figures::put_digits` meets its contract. The invariant: with the j figures of v still to put, the buffer is what it becomes. Assumes nothing.
-use Prim.Native.Nat.{◌+◌, ◌%◌, ◌≤◌}
+use Prim.Native.Nat.{◌+◌, ◌%◌}
 use mathlib.Core.Path.{◌≡◌, ◌∙◌, refl}
 use native.Mathlib.Omega.{arith}
-use lib.ListN.{length, length-set}
-use Rattle.wire.specs.Buffer.{put}
+use lib.ListN.{length-set}
 use Rattle.figures.specs.Figure.{char_of}
-use Rattle.figures.specs.Decimal.{digits}
 use Rattle.figures.proofs.Characters.{char_decimal}
 use Rattle.figures.proofs.Decimals.{digits_none, digits_last}
 use Rattle.figures.proofs.put_digits.Goals as goal

@@ -1,13 +1,9 @@
 -- `figures::put_digits` meets its contract. The invariant: with the j figures of v still to put, the buffer is what it becomes. Assumes nothing.
-use Prim.Native.Nat.{◌+◌, ◌%◌, ◌≤◌}
-use mathlib.Core.Path.{◌≡◌, ◌∙◌, refl}
-use native.Mathlib.Omega.{arith}
-use lib.ListN.{length, length-set}
+use Prim.Native.Nat.{◌≤◌}
+use mathlib.Core.Path.{◌≡◌}
+use lib.ListN.{length}
 use Rattle.wire.specs.Buffer.{put}
-use Rattle.figures.specs.Figure.{char_of}
 use Rattle.figures.specs.Decimal.{digits}
-use Rattle.figures.proofs.Characters.{char_decimal}
-use Rattle.figures.proofs.Decimals.{digits_none, digits_last}
 use Rattle.figures.proofs.put_digits.Given as goal
 
 abbrev pub invariant-loop-j : goal.invariant-loop-j

@@ -10,7 +10,6 @@ use Rattle.figures.specs.Decimal.{digits, size_of}
 use Rattle.figures.specs.Signed.{minus_char, is_negative, magnitude}
 use Rattle.figures.proofs.Decimals.{size_at_most, shortest_length}
 use Rattle.figures.proofs.Texts.{text_negative, text_positive, put_negative, put_positive}
-use borrow.Author.Rules.{rules}
 use Rattle.figures.proofs.put_text.Goals as goal
 
 pub put_digits-requires : goal.put_digits-requires

@@ -1,8 +1,5 @@
 -- `figures::size` meets its contract. The invariant: the figures of v are those of n but the k − 1 passed. Assumes nothing.
-use Prim.Native.Nat.{◌+◌}
-use mathlib.Core.Path.{◌≡◌}
 use native.Mathlib.Omega.{arith}
-use Rattle.figures.specs.Decimal.{size_of}
 use Rattle.figures.proofs.Decimals.{size_one, size_more, size_positive, size_at_most}
 use Rattle.figures.proofs.size.Goals as goal
 

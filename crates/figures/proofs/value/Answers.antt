@@ -1,13 +1,12 @@
 -- `figures::value` meets its contract. The invariant: what is read is what is read of the rest after v, a number of i figures. Assumes nothing.
-use Prim.Native.Nat.{◌+◌, ◌-◌, ◌*◌, ◌^◌, ◌≤◌, ◌<◌}
+use Prim.Native.Nat.{◌+◌, ◌*◌, ◌^◌, ◌≤◌, ◌<◌}
 use mathlib.Core.Path.{◌≡◌, ◌∙◌, sym, refl}
 use native.Mathlib.Nat.{pow-suc, pow-le-pow_right}
 use native.Mathlib.Numerals.{add-one}
 use native.Mathlib.Omega.{arith}
-use borrow.Author.Rules.{rules}
-use lib.ListN.{length, drop, get_or}
+use lib.ListN.{get_or}
 use Rattle.figures.specs.Figure.{figure_of}
-use Rattle.figures.specs.Decimal.{read_from, read_of}
+use Rattle.figures.specs.Decimal.{read_of}
 use Rattle.figures.proofs.Decimals.{read_figure, read_other, read_end}
 use Rattle.figures.proofs.value.Goals as goal
 use Rattle.figures.proofs.value.Goals.{In-loop-i}

@@ -3,7 +3,6 @@ use native.Mathlib.Omega.{arith}
 use borrow.Author.Tests.{ne_eqb}
 use Rattle.wire.proofs.Cases.{cases, no}
 use Rattle.figures.specs.Signed.{with_sign}
-use borrow.Author.Rules.{rules}
 use Rattle.figures.proofs.with_sign.Goals as goal
 
 pub returns-then-not-negative : goal.returns-then-not-negative

@@ -1,7 +1,6 @@
 -- `wire::copy` meets its contract. The invariant: `dst` is as it came with the first i bytes of `src` pasted at `at`. Assumes nothing.
-use Rattle.std.proofs.Common.{◌≡◌, ◌-◌, ◌≤◌, length, take, append_assoc, add-one, arith, length-set, rules}
-use lib.Seq.{paste, paste-zero, paste-suc, take-length}
-use Rattle.wire.specs.Buffer.{put}
+use Rattle.std.proofs.Common.{◌≡◌, ◌-◌, ◌≤◌, length}
+use lib.Seq.{paste}
 use Rattle.wire.proofs.copy.Given as goal
 
 abbrev pub invariant-loop-i : goal.invariant-loop-i

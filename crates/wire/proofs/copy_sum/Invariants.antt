@@ -1,9 +1,7 @@
 -- `wire::copy_sum` meets its contract. The invariant: that of `copy`, and `summed` is the sum of the bytes passed, modulo 256. Assumes nothing.
-use Rattle.std.proofs.Common.{◌≡◌, ◌-◌, ◌%◌, ◌<◌, ◌≤◌, length, take, refl, append_assoc, add-one, arith, length-set, take_all, rules}
-use lib.Seq.{paste, paste-zero, paste-suc, take-length}
-use Rattle.wire.specs.Buffer.{put}
-use Rattle.wire.specs.Sum.{total, sum_of}
-use Rattle.wire.proofs.Sums.{total_suc}
+use Rattle.std.proofs.Common.{◌≡◌, ◌-◌, ◌%◌, ◌≤◌, length, take}
+use lib.Seq.{paste}
+use Rattle.wire.specs.Sum.{total}
 use Rattle.wire.proofs.copy_sum.Given as goal
 
 abbrev pub invariant-loop-i : goal.invariant-loop-i

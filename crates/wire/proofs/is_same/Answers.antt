@@ -1,6 +1,5 @@
 -- `wire::is_same` meets its contract. The invariant: ok tells of the first i bytes. Assumes nothing.
-use Rattle.std.proofs.Common.{◌≡◌, ◌-◌, ◌≤◌, ◌&&◌, length, drop, sym, refl, ◌∙◌, add-one, arith}
-use Rattle.wire.specs.Buffer.{same}
+use Rattle.std.proofs.Common.{sym, refl, ◌∙◌, add-one, arith}
 use Rattle.wire.proofs.Same.{same_next, same_end}
 use Rattle.wire.proofs.is_same.Goals as goal
 

@@ -1,7 +1,6 @@
 -- `wire::is_same` meets its contract. The invariant: ok tells of the first i bytes. Assumes nothing.
-use Rattle.std.proofs.Common.{◌≡◌, ◌-◌, ◌≤◌, ◌&&◌, length, drop, sym, refl, ◌∙◌, add-one, arith}
+use Rattle.std.proofs.Common.{◌≡◌, ◌-◌, ◌≤◌, ◌&&◌, length, drop}
 use Rattle.wire.specs.Buffer.{same}
-use Rattle.wire.proofs.Same.{same_next, same_end}
 use Rattle.wire.proofs.is_same.Given as goal
 
 abbrev pub invariant-loop-i : goal.invariant-loop-i

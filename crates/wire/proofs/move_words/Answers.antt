@@ -1,6 +1,6 @@
 -- `wire::move_words` meets its contract. The invariant: the words are as they came with the first i of the run pasted at `to`. Assumes nothing.
-use Rattle.std.proofs.Common.{◌≡◌, ◌+◌, ◌-◌, ◌≤◌, length, refl, add-one, arith, length-set, rules}
-use lib.Seq.{paste, paste-zero}
+use Rattle.std.proofs.Common.{◌≡◌, ◌+◌, refl, add-one, arith, length-set, rules}
+use lib.Seq.{paste-zero}
 use Rattle.wire.specs.Buffer.{part}
 use Rattle.wire.proofs.Moves.{turn, done}
 use Rattle.wire.proofs.move_words.Goals as goal

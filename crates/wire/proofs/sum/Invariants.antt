@@ -1,7 +1,6 @@
 -- `wire::sum` meets its contract. The invariant: `sum` is the sum of the bytes passed, modulo 256. Assumes nothing.
-use Rattle.std.proofs.Common.{◌≡◌, ◌-◌, ◌%◌, ◌≤◌, length, take, add-one, arith, take_all, rules}
-use Rattle.wire.specs.Sum.{total, sum_of}
-use Rattle.wire.proofs.Sums.{total_suc}
+use Rattle.std.proofs.Common.{◌≡◌, ◌-◌, ◌%◌, ◌≤◌, length, take}
+use Rattle.wire.specs.Sum.{total}
 use Rattle.wire.proofs.sum.Given as goal
 
 abbrev pub invariant-loop-i : goal.invariant-loop-i

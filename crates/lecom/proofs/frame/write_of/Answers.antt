@@ -1,0 +1,18 @@
+-- `lecom::frame::write_of` meets its contract, test by test. Assumes nothing.
+use Rattle.wire.proofs.Cases.{yes, no, told_true, told_false}
+use mathlib.Core.Path.{refl}
+use Rattle.wire.specs.Choose.{choose}
+use Rattle.lecom.specs.Frame.{value_right, value_in}
+use Rattle.lecom.proofs.frame.write_of.Goals as goal
+
+pub returns-in_default : goal.returns-in_default
+unfolding value_right choose
+returns-in_default c = rw c.in_default.is
+
+pub returns-then-not-is_taken : goal.returns-then-not-is_taken
+unfolding value_right
+returns-then-not-is_taken c = rw c.in-Value.is (no _ _ _ _ (told_false c.is_taken.ensures c.if-not-is_taken.true) refl)
+
+pub returns : goal.returns
+unfolding value_right value_in
+returns c = rw c.in-Value.is (yes _ _ _ _ (told_true c.is_taken.ensures c.if-not-is_taken.false) refl)

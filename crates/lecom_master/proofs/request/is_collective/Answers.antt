@@ -1,0 +1,8 @@
+-- `lecom_master::request::is_collective` meets its contract. Assumes nothing.
+use mathlib.Core.Path.{refl}
+use Rattle.lecom_master.specs.Request.{is_collective}
+use Rattle.lecom_master.proofs.request.is_collective.Goals as goal
+
+pub returns : goal.returns
+unfolding is_collective
+returns c = refl
