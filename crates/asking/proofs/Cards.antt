@@ -1,5 +1,5 @@
 -- Cards as they are, for witnesses: the start card is one, and stays one with a word or a probe code set. Assumes nothing.
-use Rattle.std.proofs.Common.{◌≡◌, ℕ, zero, suc, ◌<◌, Bool, true, ◌&&◌, ltb, List, [], ◌∷◌, length, get_or, set, refl, ◌∙◌, arith, length-set, ltb-true}
+use Rattle.std.proofs.Common.{◌≡◌, ℕ, zero, suc, ◌<◌, Bool, true, ◌&&◌, ltb, List, [], ◌∷◌, set, refl, ◌∙◌, arith, length-set, ltb-true}
 use Rattle.wire.specs.Word.{word_values}
 use Rattle.wire.specs.Sum.{byte_values}
 use Rattle.wire.proofs.Tests.{and_true}

@@ -1,5 +1,5 @@
 -- `Exact`, from what a dialect owes for one reply. Assumes nothing.
-use Rattle.std.proofs.Common.{◌≡◌, ℕ, ◌-◌, ◌≤◌, Bool, true, false, ◌⊎◌, ◌↔◌, List, length, sym, refl, ap, ◌∙◌, inl, inr, ⊎_elim, arith}
+use Rattle.std.proofs.Common.{◌≡◌, ℕ, ◌-◌, ◌≤◌, true, false, ◌⊎◌, List, length, sym, ap, ◌∙◌, ⊎_elim, arith}
 use Rattle.wire.specs.Buffer.{put}
 use Rattle.card.specs.Numbers.{frame_form, check_character}
 use Rattle.asking.specs.Hearing.{Hearing, is_said}

@@ -1,5 +1,5 @@
 -- The entries that set a probe code and restart. Document 01, "What the card holds", last part.
-use Rattle.std.specs.Prelude.{ℕ, List, set, replicate, nat_lt, slice_set}
+use Rattle.std.specs.Prelude.{ℕ, List, replicate, nat_lt, slice_set}
 use Rattle.wire.specs.Choose.{choose}
 use Rattle.wire.specs.Buffer.{put, part}
 use Rattle.card.specs.Numbers.{done, range_unknown}

@@ -1,5 +1,5 @@
 -- There and back: what a fit card wrote is read again entry by entry, what was read is written again byte by byte, and which images are accepted. Assumes nothing.
-use Rattle.std.proofs.Common.{◌≡◌, ℕ, zero, suc, ◌+◌, ◌-◌, ◌%◌, ◌^◌, ◌<◌, ◌≤◌, Bool, true, false, ◌||◌, leb, List, [], ◌∷◌, ◌++◌, length, get_or, sym, refl, ap, ◌∙◌, inl, arith, leb-true}
+use Rattle.std.proofs.Common.{◌≡◌, ℕ, zero, suc, ◌+◌, ◌%◌, ◌^◌, ◌<◌, ◌≤◌, Bool, true, false, ◌||◌, leb, List, [], ◌∷◌, ◌++◌, length, get_or, sym, refl, ap, ◌∙◌, inl, arith, leb-true}
 use borrow.Author.Tests.{lt-leb}
 use Rattle.wire.proofs.Tests.{and_true}
 use Rattle.wire.specs.Choose.{choose}

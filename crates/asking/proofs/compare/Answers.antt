@@ -1,7 +1,6 @@
 -- `asking::compare` meets its contract. Assumes nothing.
 use Rattle.wire.proofs.Cases.{cases}
 use Rattle.asking.specs.Against.{against}
-use Rattle.std.proofs.Common.{rules}
 use Rattle.asking.proofs.compare.Goals as goal
 
 pub returns-then-reply-answer : goal.returns-then-reply-answer

@@ -1,5 +1,5 @@
 -- `asking::hand_over` meets its contract. Assumes nothing.
-use Rattle.std.proofs.Common.{refl, ◌∙◌, rules, le-leb}
+use Rattle.std.proofs.Common.{refl, ◌∙◌, le-leb}
 use borrow.Author.Tests.{lt-leb}
 use Rattle.wire.proofs.Buffers.{put_front}
 use Rattle.wire.proofs.Cases.{yes, no}

@@ -1,5 +1,5 @@
 -- `asking::is_alike` meets its contract. Assumes nothing.
-use Rattle.std.proofs.Common.{sym, ◌∙◌, arith, length-take-le, rules}
+use Rattle.std.proofs.Common.{sym, ◌∙◌, arith, length-take-le}
 use Rattle.wire.proofs.Buffers.{part_rest}
 use Rattle.asking.specs.Against.{alike}
 use Rattle.asking.proofs.is_alike.Goals as goal

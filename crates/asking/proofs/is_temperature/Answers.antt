@@ -1,6 +1,5 @@
 -- `asking::is_temperature` meets its contract. Assumes nothing.
 use Rattle.asking.specs.Steps.{is_temperature}
-use Rattle.std.proofs.Common.{rules}
 use Rattle.asking.proofs.is_temperature.Goals as goal
 
 pub returns : goal.returns

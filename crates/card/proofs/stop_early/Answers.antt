@@ -1,5 +1,5 @@
 -- `card::stop_early` meets its contract: 12, then 11, then neither. Assumes nothing.
-use Rattle.std.proofs.Common.{rules, le-leb}
+use Rattle.std.proofs.Common.{le-leb}
 use borrow.Author.Tests.{lt-leb}
 use Rattle.wire.specs.Choose.{choose}
 use Rattle.card.specs.Reply.{early}

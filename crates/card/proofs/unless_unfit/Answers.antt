@@ -1,6 +1,5 @@
 -- `card::unless_unfit` meets its contract, test by test. Assumes nothing.
 use Rattle.wire.proofs.Cases.{cases}
-use Rattle.std.proofs.Common.{rules}
 use Rattle.card.proofs.unless_unfit.Goals as goal
 
 pub returns-then-is_fit : goal.returns-then-is_fit

@@ -1,13 +1,10 @@
 -- `image::pack` meets its contract: the runs, one after another, and then the padding are the whole image. Assumes nothing.
-use Rattle.std.proofs.Common.{◌≡◌, ◌+◌, ◌-◌, ◌*◌, ◌<◌, ◌≤◌, length, sym, refl, ap, ◌∙◌, zero-add, arith, rules}
-use Rattle.bits.specs.Bits.{put_field, widest}
+use Rattle.std.proofs.Common.{◌≡◌, ◌+◌, ◌-◌, ◌<◌, ◌≤◌, length}
+use Rattle.bits.specs.Bits.{widest}
 use Rattle.bits.specs.Packing.{packed, place_of}
-use Rattle.image.specs.declared.form.Run.{Run}
-use Rattle.image.specs.Form.{entries_of_run, saved_form, used, padding, image_size}
-use Rattle.image.specs.Scans.{run_count, rest_of, bits_of}
+use Rattle.image.specs.Form.{saved_form, used}
+use Rattle.image.specs.Scans.{run_count, rest_of}
 use Rattle.image.specs.Saved.{put_entries}
-use Rattle.image.proofs.Runs.{form_used, run_sound, rest_all, used_none, used_rest, put_none, put_rest}
-use Rattle.image.proofs.Whole.{image_of_written}
 use Rattle.image.proofs.pack.Given as goal
 
 abbrev pub invariant-loop-k : goal.invariant-loop-k

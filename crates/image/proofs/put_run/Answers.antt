@@ -1,10 +1,9 @@
 -- `image::put_run` meets its contract. The invariant: the entries put, and then those that are left, are the run. Assumes nothing.
-use Rattle.std.proofs.Common.{◌≡◌, ◌+◌, ◌-◌, ◌<◌, ◌≤◌, List, length, sym, refl, ap, ◌∙◌, arith, rules}
-use Rattle.bits.specs.Bits.{widest}
+use Rattle.std.proofs.Common.{◌≡◌, ◌+◌, ◌<◌, List, sym, refl, ap, ◌∙◌, arith}
 use Rattle.bits.specs.Packing.{packed, place_of}
-use Rattle.image.specs.Form.{Entry, run_of, run, used}
+use Rattle.image.specs.Form.{Entry, used}
 use Rattle.image.specs.Saved.{put_entries}
-use Rattle.image.proofs.Runs.{left, left_all, used_left, used_end, put_left, put_end}
+use Rattle.image.proofs.Runs.{left_all, used_left, used_end, put_left, put_end}
 use Rattle.image.proofs.put_run.Goals as goal
 
 pub put_field-q-requires : goal.put_field-q-requires

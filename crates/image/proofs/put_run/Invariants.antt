@@ -1,10 +1,10 @@
 -- `image::put_run` meets its contract. The invariant: the entries put, and then those that are left, are the run. Assumes nothing.
-use Rattle.std.proofs.Common.{◌≡◌, ◌+◌, ◌-◌, ◌<◌, ◌≤◌, List, length, sym, refl, ap, ◌∙◌, arith, rules}
+use Rattle.std.proofs.Common.{◌≡◌, ◌+◌, ◌-◌, ◌<◌, ◌≤◌, length}
 use Rattle.bits.specs.Bits.{widest}
 use Rattle.bits.specs.Packing.{packed, place_of}
-use Rattle.image.specs.Form.{Entry, run_of, run, used}
+use Rattle.image.specs.Form.{run_of, run, used}
 use Rattle.image.specs.Saved.{put_entries}
-use Rattle.image.proofs.Runs.{left, left_all, used_left, used_end, put_left, put_end}
+use Rattle.image.proofs.Runs.{left}
 use Rattle.image.proofs.put_run.Given as goal
 
 abbrev pub invariant-loop-i : goal.invariant-loop-i

@@ -1,5 +1,5 @@
 -- `image::read_image` meets its contract, test by test. Assumes nothing.
-use Rattle.std.proofs.Common.{◌≡◌, true, sym, refl, ap, ◌∙◌, rules}
+use Rattle.std.proofs.Common.{◌≡◌, true, sym, refl, ap, ◌∙◌}
 use Rattle.wire.proofs.Cases.{told_yes, told_no}
 use Rattle.card.specs.Numbers.{card_unfit, image_length, image_padding}
 use Rattle.card.specs.Layout.{card_of}

@@ -1,9 +1,9 @@
 -- `image::store_run` meets its contract. The invariant: the words stored, and then those that are left, are the run. Assumes nothing.
-use Rattle.std.proofs.Common.{◌≡◌, ℕ, ◌+◌, ◌-◌, ◌%◌, ◌<◌, ◌≤◌, List, length, get_or, drop, sym, refl, ap, ◌∙◌, arith, length-set, rules}
+use Rattle.std.proofs.Common.{◌≡◌, ℕ, ◌+◌, ◌%◌, ◌<◌, List, length, get_or, drop, sym, refl, ap, ◌∙◌, arith, length-set}
 use Rattle.wire.specs.Word.{word_values, minus}
 use Rattle.image.specs.Form.{Entry, run_of, run}
 use Rattle.image.specs.Saved.{replaced}
-use Rattle.image.proofs.Runs.{left, left_all, store_left, store_end}
+use Rattle.image.proofs.Runs.{left_all, store_left, store_end}
 use Rattle.image.proofs.store_run.Goals as goal
 
 pub loop-i-init : goal.loop-i-init

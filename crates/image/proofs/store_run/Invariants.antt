@@ -1,9 +1,8 @@
 -- `image::store_run` meets its contract. The invariant: the words stored, and then those that are left, are the run. Assumes nothing.
-use Rattle.std.proofs.Common.{◌≡◌, ℕ, ◌+◌, ◌-◌, ◌%◌, ◌<◌, ◌≤◌, List, length, get_or, drop, sym, refl, ap, ◌∙◌, arith, length-set, rules}
-use Rattle.wire.specs.Word.{word_values, minus}
-use Rattle.image.specs.Form.{Entry, run_of, run}
+use Rattle.std.proofs.Common.{◌≡◌, ℕ, ◌-◌, ◌≤◌, length, drop}
+use Rattle.image.specs.Form.{run_of, run}
 use Rattle.image.specs.Saved.{replaced}
-use Rattle.image.proofs.Runs.{left, left_all, store_left, store_end}
+use Rattle.image.proofs.Runs.{left}
 use Rattle.image.proofs.store_run.Given as goal
 
 abbrev pub invariant-loop-i : goal.invariant-loop-i

@@ -1,11 +1,10 @@
 -- `image::unpack` meets its contract: one reader is carried through the runs to the padding. Assumes nothing.
-use Rattle.std.proofs.Common.{◌≡◌, ◌+◌, ◌<◌, ◌≤◌, List, ℕ, length, refl, ap, ◌∙◌, arith}
+use Rattle.std.proofs.Common.{◌≡◌, ◌+◌, ◌<◌, ℕ, length, refl, ap, ◌∙◌, arith}
 use Rattle.wire.specs.Buffer.{put}
-use Rattle.bits.specs.Bits.{field, Within}
 use Rattle.bits.specs.Fields.{fields}
-use Rattle.image.specs.Form.{widths, padding}
+use Rattle.image.specs.Form.{widths}
 use Rattle.image.specs.Scans.{run_count, entries_at, first_of, bits_of}
-use Rattle.image.proofs.Walking.{At, Filled, begins, filled_none, next, next_fits, run_inside, filled_next, filled_last, padding_inside, padding_is}
+use Rattle.image.proofs.Walking.{begins, filled_none, next, next_fits, filled_next, filled_last, padding_inside, padding_is}
 use Rattle.image.proofs.unpack.Goals as goal
 
 pub loop-k-init : goal.loop-k-init

@@ -1,5 +1,5 @@
 -- `image::write_image` meets its contract, test by test. Assumes nothing.
-use Rattle.std.proofs.Common.{ℕ, List, ◌++◌, drop, sym, refl, ap, ◌∙◌, length-take-le, rules}
+use Rattle.std.proofs.Common.{ℕ, List, ◌++◌, drop, sym, refl, ap, ◌∙◌, length-take-le}
 use Rattle.wire.specs.Buffer.{overlay}
 use Rattle.card.proofs.Facts.{fit_facts}
 use Rattle.card.proofs.Replies.{early_none, shell_stopped, shell_passed}

@@ -1,6 +1,6 @@
 -- `card::change::fit_pending` meets its contract: no change first, then the tests of the definition. Assumes nothing.
 use Rattle.card.specs.Change.{fit_pending}
-use Rattle.std.proofs.Common.{rules, eq-eqb, ne_eqb}
+use Rattle.std.proofs.Common.{eq-eqb, ne_eqb}
 use Rattle.card.proofs.change.fit_pending.Goals as goal
 
 pub returns-then-kind-eq-NO_CHANGE : goal.returns-then-kind-eq-NO_CHANGE

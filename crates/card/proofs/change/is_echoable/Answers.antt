@@ -1,5 +1,5 @@
 -- `card::change::is_echoable` meets its contract: the tests are those of the definition. Assumes nothing.
-use Rattle.std.proofs.Common.{rules, le-leb}
+use Rattle.std.proofs.Common.{le-leb}
 use borrow.Author.Tests.{lt-leb}
 use Rattle.wire.proofs.Cases.{told_no, told_yes}
 use Rattle.card.specs.Change.{echoable}

@@ -6,7 +6,7 @@ use Rattle.card.proofs.Facts.{fit_facts}
 use Rattle.card.specs.Reply.{guarded}
 use Rattle.card.specs.Entries.{restart, restarted, dropped, full_demands}
 use Rattle.wire.proofs.Cases.{yes, no, told_yes, told_no}
-use Rattle.std.proofs.Common.{refl, ap, ◌∙◌, arith, rules}
+use Rattle.std.proofs.Common.{refl, ap, ◌∙◌, arith}
 use Rattle.card.proofs.entries.restart_card.Goals as goal
 use Rattle.card.proofs.entries.restart_card.Goals.{Else-not-is_fit}
 

@@ -1,6 +1,6 @@
 -- `card::entries::restore` meets its contract: registers, then parameters. Assumes nothing.
 use Rattle.wire.specs.Buffer.{put, part}
-use Rattle.std.proofs.Common.{ℕ, List, ap, ◌∙◌, inr, arith, rules}
+use Rattle.std.proofs.Common.{ℕ, List, ap, ◌∙◌, inr, arith}
 use Rattle.card.specs.Entries.{restored_parameters}
 use Rattle.card.proofs.entries.restore.Goals as goal
 

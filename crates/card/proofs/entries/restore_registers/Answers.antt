@@ -1,7 +1,7 @@
 -- `card::entries::restore_registers` meets its contract. The invariant: the words are as they came with the first i registers of both copies replaced. Assumes nothing.
-use Rattle.std.proofs.Common.{◌≡◌, ℕ, ◌-◌, ◌≤◌, List, length, sym, refl, ap, ◌∙◌, add-one, arith, length-set}
+use Rattle.std.proofs.Common.{◌≡◌, ℕ, List, sym, refl, ap, ◌∙◌, add-one, arith, length-set}
 use lib.Seq.{paste, paste-zero}
-use Rattle.card.specs.Layout.{word_count, registers, buffer_at, operational_at}
+use Rattle.card.specs.Layout.{registers, buffer_at, operational_at}
 use Rattle.card.proofs.Copies.{saved, copied, copied_next, copied_all}
 use Rattle.card.proofs.entries.restore_registers.Goals as goal
 

@@ -1,8 +1,7 @@
 -- `card::entries::restore_registers` meets its contract. The invariant: the words are as they came with the first i registers of both copies replaced. Assumes nothing.
-use Rattle.std.proofs.Common.{◌≡◌, ℕ, ◌-◌, ◌≤◌, List, length, sym, refl, ap, ◌∙◌, add-one, arith, length-set}
-use lib.Seq.{paste, paste-zero}
-use Rattle.card.specs.Layout.{word_count, registers, buffer_at, operational_at}
-use Rattle.card.proofs.Copies.{saved, copied, copied_next, copied_all}
+use Rattle.std.proofs.Common.{◌≡◌, ◌-◌, ◌≤◌, length}
+use Rattle.card.specs.Layout.{word_count, registers}
+use Rattle.card.proofs.Copies.{copied}
 use Rattle.card.proofs.entries.restore_registers.Given as goal
 
 abbrev pub invariant-loop-i : goal.invariant-loop-i

@@ -4,7 +4,7 @@ use Rattle.card.proofs.Facts.{fit_facts}
 use Rattle.card.specs.Reply.{guarded}
 use Rattle.card.specs.Entries.{set_code, with_code}
 use Rattle.wire.proofs.Cases.{yes, no, told_yes, told_no}
-use Rattle.std.proofs.Common.{refl, arith, rules, le-ltb, lt-ltb}
+use Rattle.std.proofs.Common.{refl, arith, le-ltb, lt-ltb}
 use Rattle.card.proofs.entries.set_code.Goals as goal
 
 pub returns-then-not-is_fit : goal.returns-then-not-is_fit

@@ -4,7 +4,7 @@ use Rattle.card.proofs.Scans.{all_in_next}
 use Rattle.card.proofs.Spans.{span_shifted}
 use Rattle.card.specs.Fitness.{in_span}
 use Rattle.card.specs.Scans.{all_in}
-use Rattle.std.proofs.Common.{◌≡◌, ◌-◌, ◌≤◌, not, ◌&&◌, length, get_or, drop, sym, ap, ◌∙◌, add-one, arith, drop_of_length-le, rules}
+use Rattle.std.proofs.Common.{◌≡◌, not, get_or, sym, ap, ◌∙◌, add-one, arith, drop_of_length-le, rules}
 use Rattle.card.proofs.fitness.all_in.Goals as goal
 
 pub returns : goal.returns

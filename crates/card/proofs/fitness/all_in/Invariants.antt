@@ -1,10 +1,6 @@
 -- `card::fitness::all_in` meets its contract. The invariant: the test of the whole is what was found so far and the test of the rest. Assumes nothing.
-use Rattle.wire.proofs.Tests.{and_true_right, not_or}
-use Rattle.card.proofs.Scans.{all_in_next}
-use Rattle.card.proofs.Spans.{span_shifted}
-use Rattle.card.specs.Fitness.{in_span}
 use Rattle.card.specs.Scans.{all_in}
-use Rattle.std.proofs.Common.{◌≡◌, ◌-◌, ◌≤◌, not, ◌&&◌, length, get_or, drop, sym, ap, ◌∙◌, add-one, arith, drop_of_length-le, rules}
+use Rattle.std.proofs.Common.{◌≡◌, ◌-◌, ◌≤◌, not, ◌&&◌, length, drop}
 use Rattle.card.proofs.fitness.all_in.Given as goal
 
 abbrev pub invariant-loop-i : goal.invariant-loop-i

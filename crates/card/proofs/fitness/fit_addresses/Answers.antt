@@ -1,5 +1,4 @@
 -- `card::fitness::fit_addresses` meets its contract: the tests are those of the definition. Assumes nothing.
-use Rattle.std.proofs.Common.{rules}
 use Rattle.card.specs.Scans.{fit_addresses}
 use Rattle.card.proofs.fitness.fit_addresses.Goals as goal
 

@@ -1,8 +1,6 @@
 -- `card::fitness::fit_parameters` meets its contract. The invariant: the test of the whole is what was found so far and the test of the rest. Assumes nothing.
-use Rattle.wire.proofs.Tests.{and_true_right}
-use Rattle.card.proofs.Scans.{parameters_next, parameters_none}
 use Rattle.card.specs.Scans.{fit_parameters}
-use Rattle.std.proofs.Common.{◌≡◌, ◌-◌, ◌≤◌, ◌&&◌, length, drop, sym, ◌∙◌, arith, rules}
+use Rattle.std.proofs.Common.{◌≡◌, ◌-◌, ◌≤◌, ◌&&◌, length, drop}
 use Rattle.card.proofs.fitness.fit_parameters.Given as goal
 
 abbrev pub invariant-loop-i : goal.invariant-loop-i

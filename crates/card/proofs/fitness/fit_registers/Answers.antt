@@ -4,7 +4,7 @@ use Rattle.card.specs.Fitness.{register_most}
 use Rattle.card.specs.Scans.{all_in}
 use Rattle.card.specs.Layout.{registers}
 use Rattle.wire.specs.Word.{minus}
-use Rattle.std.proofs.Common.{◌≡◌, ◌-◌, ◌*◌, length, take, drop, sym, arith, length-drop, length-take-le, take_all, rules}
+use Rattle.std.proofs.Common.{◌≡◌, ◌-◌, ◌*◌, length, take, drop, sym, arith, length-drop, length-take-le, take_all}
 use Rattle.card.proofs.fitness.fit_registers.Goals as goal
 
 pub slice_bounds-all_in-end : goal.slice_bounds-all_in-end

@@ -1,5 +1,5 @@
 -- `card::fitness::in_range` meets its contract, test by test. Assumes nothing.
-use Rattle.std.proofs.Common.{◌∙◌, arith, rules, eq-eqb}
+use Rattle.std.proofs.Common.{◌∙◌, arith, eq-eqb}
 use Rattle.wire.proofs.Cases.{cases, yes}
 use Rattle.card.specs.Fitness.{in_range}
 use Rattle.card.proofs.Ranges.{at_demand, at_cycle, at_floor, at_register}

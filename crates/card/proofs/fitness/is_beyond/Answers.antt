@@ -1,5 +1,4 @@
 -- `card::fitness::is_beyond` meets its contract. Assumes nothing.
-use Rattle.std.proofs.Common.{rules}
 use Rattle.card.proofs.fitness.is_beyond.Goals as goal
 
 pub returns : goal.returns

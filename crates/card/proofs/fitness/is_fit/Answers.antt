@@ -2,7 +2,7 @@
 use Rattle.wire.proofs.Tests.{and_false_right, and_true_right}
 use Rattle.wire.proofs.Cases.{told_no, told_yes}
 use Rattle.card.specs.Fitness.{fit}
-use Rattle.std.proofs.Common.{rules, eq-eqb, ne_eqb}
+use Rattle.std.proofs.Common.{eq-eqb, ne_eqb}
 use Rattle.card.proofs.fitness.is_fit.Goals as goal
 
 pub returns-then-words-ne-WORDS : goal.returns-then-words-ne-WORDS

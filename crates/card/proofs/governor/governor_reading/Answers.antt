@@ -4,7 +4,7 @@ use Rattle.card.proofs.Governed.{governor_told}
 use Rattle.card.specs.Governor.{governor_of}
 use Rattle.wire.specs.Choose.{choose}
 use Rattle.wire.proofs.Cases.{told_no, told_yes}
-use Rattle.std.proofs.Common.{arith, rules, le-ltb, lt-ltb}
+use Rattle.std.proofs.Common.{arith, le-ltb, lt-ltb}
 use Rattle.card.proofs.governor.governor_reading.Goals as goal
 
 pub returns-then-not-is_fit : goal.returns-then-not-is_fit

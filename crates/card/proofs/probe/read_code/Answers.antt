@@ -1,5 +1,5 @@
 -- `card::probe::read_code` meets its contract, test by test. Assumes nothing.
-use Rattle.std.proofs.Common.{ℕ, ap, arith, rules, ne_eqb}
+use Rattle.std.proofs.Common.{ℕ, ap, arith, ne_eqb}
 use Rattle.card.specs.declared.probe.Reading.TheVariants.{Temperature}
 use Rattle.wire.proofs.Cases.{cases, no}
 use Rattle.card.specs.Probe.{reading_of, tenths_of}

@@ -1,5 +1,5 @@
 -- `card::row::drop_parts` meets its contract. Assumes nothing.
-use Rattle.std.proofs.Common.{ap, ◌∙◌, rules}
+use Rattle.std.proofs.Common.{ap, ◌∙◌}
 use Rattle.card.specs.Layout.{lecom_part_at, love_part_at, lucid_part_at}
 use Rattle.card.specs.Row.{with_count, no_parts}
 use Rattle.card.proofs.row.drop_parts.Goals as goal

@@ -1,5 +1,5 @@
 -- `image::form::entries_right` meets its contract: run by run it tests all entries. Assumes nothing.
-use Rattle.std.proofs.Common.{arith, rules}
+use Rattle.std.proofs.Common.{arith}
 use Rattle.image.proofs.Runs.{form_length}
 use Rattle.image.proofs.Judging.{judged}
 use Rattle.image.proofs.form.entries_right.Goals as goal
