@@ -1,0 +1,85 @@
+-- `receive::feed` meets its contract.
+use mathlib.Core.Path.{◌≡◌, refl, sym, subst}
+use mathlib.Core.Bool.{true}
+use mathlib.Core.List.{List}
+use Prim.Native.Nat.{ℕ, ◌+◌}
+use native.Mathlib.Omega.{arith}
+use lib.ListN.{set}
+use Rattle.wire.specs.Buffer.{part}
+use Rattle.receiver.specs.Place.{Placed}
+use Rattle.receiver.specs.declared.Place.{Place}
+use Rattle.receiver.specs.declared.Place.TheVariants.{Behind, First, Nowhere, Last}
+use Rattle.receive.specs.Parts.{step_of, longest_of, held_by, bytes_at, front}
+use Rattle.receive.specs.Stages.{GoesOn}
+use Rattle.receive.specs.declared.Dialect.{Dialect}
+use Rattle.receive.proofs.Parts.{part_inside, longest_some, slice_front, front_length}
+use Rattle.receive.proofs.Gathering.{goes_behind, goes_first, goes_nowhere}
+use Rattle.receive.proofs.feed.Goals as goal
+
+-- the slice that is lent is the front
+placed-front : (d : Dialect) (place : Place) (n b : ℕ) (row : List ℕ) {first : ℕ} → first ≡ bytes_at d → Placed (step_of d) (longest_of d) (part row first (first + n)) b place
+    → Placed (step_of d) (longest_of d) (front d n row) b place
+placed-front d place n b row {first} e p = subst (λ (l : List ℕ). Placed (step_of d) (longest_of d) l b place) (slice_front d first n row e) p
+
+pub overflow_add-first : goal.overflow_add-first
+overflow_add-first c = let p = part_inside c.args.dialect in omega (arith, c.bytes_at-first.ensures, c.requires.0.few)
+
+pub slice_bounds-place-end : goal.slice_bounds-place-end
+slice_bounds-place-end c = let p = part_inside c.args.dialect in omega (arith, c.bytes_at-first.ensures, c.requires.0.few)
+
+pub place-requires : goal.place-requires
+place-requires c = let s = c in
+    subst (λ (l : List ℕ). held_by s.args.dialect l ≡ true) (sym (slice_front s.args.dialect _ s.args.n s.args.ports.now c.bytes_at-first.ensures)) s.requires.0.held
+
+pub overflow_add-ports : goal.overflow_add-ports
+overflow_add-ports c = let s = c in
+    let i = part_inside s.args.dialect in
+    omega (arith, c.bytes_at-first.ensures, s.requires.0.few)
+
+pub bounds-ports-first : goal.bounds-ports-first
+bounds-ports-first c = let s = c in
+    let d = s.args.dialect in
+    let row = s.args.ports.now in
+    let p = placed-front d Behind s.args.n s.args.b row c.bytes_at-first.ensures (rw c.in-Behind.is at c.place.ensures) in
+    let i = part_inside d in
+    omega (arith, c.bytes_at-first.ensures, s.requires.1, p.room, front_length d s.args.n row s.requires.1 s.requires.0.few)
+
+pub overflow_add-result : goal.overflow_add-result
+overflow_add-result c = let s = c in
+    let i = part_inside s.args.dialect in
+    omega (arith, c.bytes_at-first.ensures, s.requires.0.few)
+
+pub bounds-ports-first-in-First : goal.bounds-ports-first-in-First
+bounds-ports-first-in-First c = let s = c in
+    let i = part_inside s.args.dialect in
+    omega (arith, c.bytes_at-first.ensures, s.requires.1, (longest_some s.args.dialect).0)
+
+pub returns-in-Behind : goal.returns-in-Behind
+returns-in-Behind c = let s = c in
+    let d = s.args.dialect in
+    let row = s.args.ports.now in
+    let p = placed-front d Behind s.args.n s.args.b row c.bytes_at-first.ensures (rw c.in-Behind.is at c.place.ensures) in
+    subst (λ (a : ℕ). GoesOn d (front d s.args.n row) s.args.b row (s.args.n + 1) (set row (a + s.args.n) s.args.b)) (sym c.bytes_at-first.ensures)
+    (goes_behind d s.args.n row s.args.b s.requires.1 s.requires.0 p.fate p.room)
+
+pub returns-in-First : goal.returns-in-First
+returns-in-First c = let s = c in
+    let d = s.args.dialect in
+    let row = s.args.ports.now in
+    let p = placed-front d First s.args.n s.args.b row c.bytes_at-first.ensures (rw c.in-First.is at c.place.ensures) in
+    subst (λ (a : ℕ). GoesOn d (front d s.args.n row) s.args.b row 1 (set row a s.args.b)) (sym c.bytes_at-first.ensures)
+    (goes_first d s.args.n row s.args.b s.requires.1 s.requires.0 p.fate (longest_some d).0)
+
+pub returns-in-Nowhere : goal.returns-in-Nowhere
+returns-in-Nowhere c = let s = c in
+    let d = s.args.dialect in
+    let row = s.args.ports.now in
+    let p = placed-front d Nowhere s.args.n s.args.b row c.bytes_at-first.ensures (rw c.in-Nowhere.is at c.place.ensures) in
+    goes_nowhere d s.args.n row s.args.b s.requires.1 s.requires.0 p.fate
+
+pub returns-in-Last : goal.returns-in-Last
+returns-in-Last c = let s = c in
+    let d = s.args.dialect in
+    let row = s.args.ports.now in
+    let p = placed-front d Last s.args.n s.args.b row c.bytes_at-first.ensures (rw c.in-Last.is at c.place.ensures) in
+    ((p.fate, omega (arith, p.room, front_length d s.args.n row s.requires.1 s.requires.0.few)), refl)

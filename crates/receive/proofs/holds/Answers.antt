@@ -1,0 +1,14 @@
+-- `receive::holds` meets its contract.
+use Rattle.receive.proofs.holds.Goals as goal
+
+pub returns-in-Datalink : goal.returns-in-Datalink
+returns-in-Datalink c = rw c.in-Datalink.is c.holds.ensures
+
+pub returns-in-Lecom : goal.returns-in-Lecom
+returns-in-Lecom c = rw c.in-Lecom.is c.holds-in-Lecom.ensures
+
+pub returns-in-Love : goal.returns-in-Love
+returns-in-Love c = rw c.in-Love.is c.holds-in-Love.ensures
+
+pub returns-in-Lucid : goal.returns-in-Lucid
+returns-in-Lucid c = rw c.in-Lucid.is c.holds-in-Lucid.ensures
