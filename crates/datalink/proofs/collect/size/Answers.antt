@@ -1,0 +1,7 @@
+-- `datalink::collect::size` meets its contract. Assumes nothing.
+use Rattle.datalink.specs.Stages.{size_of}
+use Rattle.datalink.proofs.collect.size.Goals as goal
+
+pub returns : goal.returns
+unfolding size_of
+returns c = rw (c.data_carried-data.ensures, c.kind_of-kind.ensures, c.command_of.ensures)

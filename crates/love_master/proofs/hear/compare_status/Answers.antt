@@ -1,0 +1,24 @@
+-- `love_master::hear::compare_status` meets its contract. Assumes nothing.
+use Rattle.std.proofs.Common.{◌≡◌, ℕ, length, refl, arith}
+use Rattle.figures.specs.Figure.{pair_of}
+use Rattle.figures.specs.Decimal.{digits}
+use Rattle.love_master.proofs.Written.{front, within, counted, heard_written}
+use Rattle.love.specs.Answer.{unit_of, normal_reply, status_data}
+use Rattle.love_master.specs.Stages.{status_reply_length}
+use Rattle.love_master.proofs.hear.compare_status.Goals as goal
+
+whole : (address first fourth number : ℕ) → length (normal_reply address (status_data first fourth number)) ≡ status_reply_length
+unfolding normal_reply unit_of pair_of status_data digits
+whole address first fourth number = refl
+
+pub slice_bounds-expected-end : goal.slice_bounds-expected-end
+slice_bounds-expected-end c = within _ _ c.put_status-len.ensures (omega (arith, whole c.args.address c.args.first c.args.fourth c.args.number))
+
+pub slice_bounds-compared-end : goal.slice_bounds-compared-end
+slice_bounds-compared-end c = counted _ _ c.put_status-len.ensures (omega (arith, whole c.args.address c.args.first c.args.fourth c.args.number))
+
+pub compared-requires : goal.compared-requires
+compared-requires c = rw (front _ _ c.put_status-len.ensures) (omega (arith, whole c.args.address c.args.first c.args.fourth c.args.number))
+
+pub returns : goal.returns
+returns c = heard_written _ _ _ _ _ c.put_status-len.ensures c.compared.ensures
