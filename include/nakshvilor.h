@@ -1,6 +1,6 @@
 /* Nakshvilor: the proved protocol core of the cooling card.
  *
- * Link with libfirmware.a (`rt staticlib firmware` writes target/staticlib/libfirmware.a). The archive is for x86-64 with the
+ * Link with libfirmware.a (./card builds target/staticlib/libfirmware.a, from crates/firmware_c). The archive is for x86-64 with the
  * System V calling convention alone. It needs memcpy and memset, allocates nothing, keeps no state and calls no other function.
  *
  * TABLES. The firmware owns three tables and passes them to every call of the card. Each is a pointer and a count of ELEMENTS. A
