@@ -19,7 +19,7 @@
  *
  * WORST CASES. Every call ends, does not recurse, and loops only over tables, frames and fields of bounded length, and over the
  * bytes lent to a receiver. The figures with each entry are the instructions of the most expensive call measured on x86-64, and
- * the most stack bytes of any call (docs/PERFORMANCE.md).
+ * the most stack bytes of any call (docs/PERFORMANCE.md); they were measured with the older kit.
  */
 #ifndef NAKSHVILOR_H
 #define NAKSHVILOR_H
