@@ -1,6 +1,6 @@
 /* Nakshvilor: the proved protocol core of the cooling card.
  *
- * Link with libfirmware.a (`rt staticlib firmware` writes target/staticlib/libfirmware.a). The archive is for x86-64 with the
+ * Link with libfirmware.a (./card builds target/staticlib/libfirmware.a, from crates/firmware_c). The archive is for x86-64 with the
  * System V calling convention alone. It needs memcpy and memset, allocates nothing, keeps no state and calls no other function.
  *
  * TABLES. The firmware owns three tables and passes them to every call of the card. Each is a pointer and a count of ELEMENTS. A
@@ -19,7 +19,7 @@
  *
  * WORST CASES. Every call ends, does not recurse, and loops only over tables, frames and fields of bounded length, and over the
  * bytes lent to a receiver. The figures with each entry are the instructions of the most expensive call measured on x86-64, and
- * the most stack bytes of any call (docs/PERFORMANCE.md).
+ * the most stack bytes of any call (docs/PERFORMANCE.md); they were measured with the older kit.
  */
 #ifndef NAKSHVILOR_H
 #define NAKSHVILOR_H

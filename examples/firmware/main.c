@@ -2,7 +2,8 @@
  * papers give it, the same requests as bytes come at interrupts, the governor's reading, and the saved image.
  *
  * Build and run, from the repository's root (./card does this, and then the same with checks.c beside it):
- *     rt staticlib firmware
+ *     (cd crates/firmware_c && rt lib)
+ *     mkdir -p target/staticlib && cp crates/firmware_c/out/libfirmware_c.a target/staticlib/libfirmware.a
  *     gcc -std=c11 -Wall -Wextra -Werror -O2 -Iinclude examples/firmware/main.c target/staticlib/libfirmware.a -o target/card
  *     target/card
  */

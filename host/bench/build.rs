@@ -1,4 +1,4 @@
-//! Links the firmware library, which `rt staticlib firmware` writes.
+//! Links the firmware library, which `./card` builds.
 
 use std::path::Path;
 

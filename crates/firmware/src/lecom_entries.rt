@@ -31,8 +31,7 @@ fn task_of(task: u8, code: u32, value: u32) -> Task
     Task::Read(NO_CODE)
 }
 
-#[unsafe(no_mangle)]
-pub extern "C" fn nk_ask_lecom(
+pub fn nk_ask_lecom(
     address: u32,
     task: u8,
     code: u32,
@@ -52,14 +51,7 @@ pub extern "C" fn nk_ask_lecom(
     hand_over(given, len)
 }
 
-#[unsafe(no_mangle)]
-pub extern "C" fn nk_hear_lecom(
-    address: u32,
-    task: u8,
-    code: u32,
-    value: u32,
-    reply: &[u8],
-) -> HeardInC
+pub fn nk_hear_lecom(address: u32, task: u8, code: u32, value: u32, reply: &[u8]) -> HeardInC
     ensures { let q = lecom_request address task code value in
         HandedHearing (unless_outside (askable q) (heard q reply.now)) result }
 {

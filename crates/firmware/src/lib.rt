@@ -1,10 +1,11 @@
-// The card's entries for firmware in C: thin, each with the whole contract of the entry below it. include/nakshvilor.h describes them.
+// The card's entries for firmware in C: thin, each with the whole contract of the entry below it. include/nakshvilor.h describes them;
+// crates/firmware_c exports them.
 #![tactic(auto)]
 
-mod hearing;
-mod lecom_entries;
-mod love_entries;
-mod lucid_entries;
+pub mod hearing;
+pub mod lecom_entries;
+pub mod love_entries;
+pub mod lucid_entries;
 
 ghost use Rattle.std.specs.Prelude.{◌≡◌, length};
 ghost use Rattle.card.specs.Layout.{card_of};
@@ -29,14 +30,7 @@ use master::Phase;
 use master::request::{Kind, Request};
 use receive::{Dialect, Received};
 
-#[unsafe(no_mangle)]
-pub extern "C" fn nk_set_code(
-    words: &[u32],
-    memory: &mut [u8],
-    ports: &[u8],
-    channel: u32,
-    code: u8,
-) -> u8
+pub fn nk_set_code(words: &[u32], memory: &mut [u8], ports: &[u8], channel: u32, code: u8) -> u8
     ensures { let before = card_of words.now memory.old ports.now in
         let after = card_of words.now memory.new ports.now in
         Did (set_code before channel code) result after }
@@ -44,8 +38,7 @@ pub extern "C" fn nk_set_code(
     card::entries::set_code(words, memory, ports, channel, code)
 }
 
-#[unsafe(no_mangle)]
-pub extern "C" fn nk_restart(words: &mut [u32], memory: &mut [u8], ports: &mut [u8]) -> u8
+pub fn nk_restart(words: &mut [u32], memory: &mut [u8], ports: &mut [u8]) -> u8
     ensures { let before = card_of words.old memory.old ports.old in
         let after = card_of words.new memory.new ports.new in
         Did (restart before) result after }
@@ -67,8 +60,7 @@ fn tell(told: Governor, degrees: &mut f32) -> u8
     }
 }
 
-#[unsafe(no_mangle)]
-pub extern "C" fn nk_governor(
+pub fn nk_governor(
     words: &[u32],
     memory: &[u8],
     ports: &[u8],
@@ -93,8 +85,7 @@ pub(crate) fn hand_over(given: Outcome, len: &mut usize) -> u8
     given.number
 }
 
-#[unsafe(no_mangle)]
-pub extern "C" fn nk_datalink(
+pub fn nk_datalink(
     words: &[u32],
     memory: &mut [u8],
     ports: &mut [u8],
@@ -110,8 +101,7 @@ pub extern "C" fn nk_datalink(
     hand_over(given, len)
 }
 
-#[unsafe(no_mangle)]
-pub extern "C" fn nk_lecom(
+pub fn nk_lecom(
     words: &mut [u32],
     memory: &[u8],
     ports: &[u8],
@@ -127,8 +117,7 @@ pub extern "C" fn nk_lecom(
     hand_over(given, len)
 }
 
-#[unsafe(no_mangle)]
-pub extern "C" fn nk_love(
+pub fn nk_love(
     words: &mut [u32],
     memory: &[u8],
     ports: &[u8],
@@ -144,8 +133,7 @@ pub extern "C" fn nk_love(
     hand_over(given, len)
 }
 
-#[unsafe(no_mangle)]
-pub extern "C" fn nk_lucid(
+pub fn nk_lucid(
     words: &mut [u32],
     memory: &[u8],
     ports: &[u8],
@@ -170,8 +158,7 @@ fn hand_over_receipt(receipt: Received, taken: &mut usize, len: &mut usize) -> u
     receipt.number
 }
 
-#[unsafe(no_mangle)]
-pub extern "C" fn nk_receive_datalink(
+pub fn nk_receive_datalink(
     words: &[u32],
     memory: &[u8],
     ports: &mut [u8],
@@ -188,8 +175,7 @@ pub extern "C" fn nk_receive_datalink(
     hand_over_receipt(receipt, taken, len)
 }
 
-#[unsafe(no_mangle)]
-pub extern "C" fn nk_receive_lecom(
+pub fn nk_receive_lecom(
     words: &[u32],
     memory: &[u8],
     ports: &mut [u8],
@@ -206,8 +192,7 @@ pub extern "C" fn nk_receive_lecom(
     hand_over_receipt(receipt, taken, len)
 }
 
-#[unsafe(no_mangle)]
-pub extern "C" fn nk_receive_love(
+pub fn nk_receive_love(
     words: &[u32],
     memory: &[u8],
     ports: &mut [u8],
@@ -224,8 +209,7 @@ pub extern "C" fn nk_receive_love(
     hand_over_receipt(receipt, taken, len)
 }
 
-#[unsafe(no_mangle)]
-pub extern "C" fn nk_receive_lucid(
+pub fn nk_receive_lucid(
     words: &[u32],
     memory: &[u8],
     ports: &mut [u8],
@@ -242,8 +226,7 @@ pub extern "C" fn nk_receive_lucid(
     hand_over_receipt(receipt, taken, len)
 }
 
-#[unsafe(no_mangle)]
-pub extern "C" fn nk_quiet_datalink(words: &[u32], memory: &[u8], ports: &mut [u8]) -> u8
+pub fn nk_quiet_datalink(words: &[u32], memory: &[u8], ports: &mut [u8]) -> u8
     ensures { let before = card_of words.now memory.now ports.old in
         let after = card_of words.now memory.now ports.new in
         Did (quiet_reply Datalink before) result after }
@@ -251,8 +234,7 @@ pub extern "C" fn nk_quiet_datalink(words: &[u32], memory: &[u8], ports: &mut [u
     receive::quiet(Dialect::Datalink, words, memory, ports)
 }
 
-#[unsafe(no_mangle)]
-pub extern "C" fn nk_quiet_lecom(words: &[u32], memory: &[u8], ports: &mut [u8]) -> u8
+pub fn nk_quiet_lecom(words: &[u32], memory: &[u8], ports: &mut [u8]) -> u8
     ensures { let before = card_of words.now memory.now ports.old in
         let after = card_of words.now memory.now ports.new in
         Did (quiet_reply Lecom before) result after }
@@ -260,8 +242,7 @@ pub extern "C" fn nk_quiet_lecom(words: &[u32], memory: &[u8], ports: &mut [u8])
     receive::quiet(Dialect::Lecom, words, memory, ports)
 }
 
-#[unsafe(no_mangle)]
-pub extern "C" fn nk_quiet_love(words: &[u32], memory: &[u8], ports: &mut [u8]) -> u8
+pub fn nk_quiet_love(words: &[u32], memory: &[u8], ports: &mut [u8]) -> u8
     ensures { let before = card_of words.now memory.now ports.old in
         let after = card_of words.now memory.now ports.new in
         Did (quiet_reply Love before) result after }
@@ -269,8 +250,7 @@ pub extern "C" fn nk_quiet_love(words: &[u32], memory: &[u8], ports: &mut [u8]) 
     receive::quiet(Dialect::Love, words, memory, ports)
 }
 
-#[unsafe(no_mangle)]
-pub extern "C" fn nk_quiet_lucid(words: &[u32], memory: &[u8], ports: &mut [u8]) -> u8
+pub fn nk_quiet_lucid(words: &[u32], memory: &[u8], ports: &mut [u8]) -> u8
     ensures { let before = card_of words.now memory.now ports.old in
         let after = card_of words.now memory.now ports.new in
         Did (quiet_reply Lucid before) result after }
@@ -278,8 +258,7 @@ pub extern "C" fn nk_quiet_lucid(words: &[u32], memory: &[u8], ports: &mut [u8])
     receive::quiet(Dialect::Lucid, words, memory, ports)
 }
 
-#[unsafe(no_mangle)]
-pub extern "C" fn nk_write_image(
+pub fn nk_write_image(
     words: &[u32],
     memory: &[u8],
     ports: &[u8],
@@ -294,8 +273,7 @@ pub extern "C" fn nk_write_image(
     hand_over(given, len)
 }
 
-#[unsafe(no_mangle)]
-pub extern "C" fn nk_read_image(words: &mut [u32], memory: &[u8], ports: &[u8], image: &[u8]) -> u8
+pub fn nk_read_image(words: &mut [u32], memory: &[u8], ports: &[u8], image: &[u8]) -> u8
     ensures { let before = card_of words.old memory.now ports.now in
         let after = card_of words.new memory.now ports.now in
         Did (read_image before image.now) result after }
@@ -361,8 +339,7 @@ fn kind_of(code: u8) -> Kind
     Kind::Bits
 }
 
-#[unsafe(no_mangle)]
-pub extern "C" fn nk_step(
+pub fn nk_step(
     phase: &mut u8,
     kind: u8,
     ia: u32,

@@ -36,8 +36,7 @@ fn task_of(task: u8, place: u32, value: u32) -> Task
     Task::Read(NO_PLACE)
 }
 
-#[unsafe(no_mangle)]
-pub extern "C" fn nk_ask_love(
+pub fn nk_ask_love(
     address: u32,
     task: u8,
     place: u32,
@@ -57,14 +56,7 @@ pub extern "C" fn nk_ask_love(
     hand_over(given, len)
 }
 
-#[unsafe(no_mangle)]
-pub extern "C" fn nk_hear_love(
-    address: u32,
-    task: u8,
-    place: u32,
-    value: u32,
-    reply: &[u8],
-) -> HeardInC
+pub fn nk_hear_love(address: u32, task: u8, place: u32, value: u32, reply: &[u8]) -> HeardInC
     ensures { let q = love_request address task place value in
         HandedHearing (unless_outside (askable q) (heard q reply.now)) result }
 {

@@ -72,8 +72,7 @@ fn request_of(command: u8, p1: u32, p2: u32, address: u32) -> Request
     }
 }
 
-#[unsafe(no_mangle)]
-pub extern "C" fn nk_ask_lucid(
+pub fn nk_ask_lucid(
     command: u8,
     p1: u32,
     p2: u32,
@@ -90,8 +89,7 @@ pub extern "C" fn nk_ask_lucid(
     hand_over(given, len)
 }
 
-#[unsafe(no_mangle)]
-pub extern "C" fn nk_hear_lucid(
+pub fn nk_hear_lucid(
     command: u8,
     p1: u32,
     p2: u32,

@@ -14,7 +14,7 @@ use crate::groups::{Plan, Start};
 use crate::time::Ratio;
 
 /// The console and the second program, seen from the repository's root.
-const CONSOLE: &str = "target/bin/console";
+const CONSOLE: &str = "crates/console/out/console";
 const SECOND: &str = "host/reference/target/release/reference";
 
 /// Lines of the script at least, and turns of both programs on it.

@@ -12,7 +12,7 @@ const SEED: u64 = 1;
 /// The calls if no number is given.
 const CALLS: usize = 20_000;
 /// The console, seen from the repository's root.
-const CONSOLE: &str = "target/bin/console";
+const CONSOLE: &str = "crates/console/out/console";
 /// The second program, seen from the repository's root.
 const REFERENCE: &str = "host/reference/target/release/reference";
 

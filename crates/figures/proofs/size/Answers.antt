@@ -7,6 +7,9 @@ pub overflow_add-k : goal.overflow_add-k
 overflow_add-k c = let n = c.args.n in
     omega (arith, size_positive c.loop-v.v, size_at_most 9 n (omega arith))
 
+pub loop-v-init : goal.loop-v-init
+loop-v-init c = omega arith
+
 pub loop-v-preserved : goal.loop-v-preserved
 loop-v-preserved c = omega (arith, size_more c.loop-v.v (omega arith))
 
