@@ -22,12 +22,12 @@ use Rattle.lines.specs.Text.{is_real}
 -- an entry's answer is in the buffer
 pub answer_fits : {reply : Reply} {out out' : List ℕ} {o : Outcome} {card' : Card} → Gave reply out o card' out' → o.len ≤ length out'
 unfolding overlay
-answer_fits g = rw (g.decreases, g.written, length-append) (omega arith)
+answer_fits g = rw (g.measured, g.written, length-append) (omega arith)
 
 -- and so is the frame of a master's step
 pub frame_fits : {m : Move Phase} {frame frame' : List ℕ} {number len : ℕ} {phase : Phase} → Stepped m frame number len phase frame' → len ≤ length frame'
 unfolding overlay
-frame_fits g = rw (g.decreases, g.written, length-append) (omega arith)
+frame_fits g = rw (g.measured, g.written, length-append) (omega arith)
 
 -- and a frame that a master made
 pub made_fits : {a : Answer} {out out' : List ℕ} {number len : ℕ} → Told a out number len out' → len ≤ length out'

@@ -2,8 +2,8 @@
 ghost use Rattle.std.specs.Prelude.{◌≤◌};
 ghost use Rattle.console.specs.Lent.{read_most};
 
-use libc::STDIN_FILENO;
 use lines::{LINE_FEED, LINE_MOST, line};
+use std::io::{Read, Stdin};
 
 // How many bytes are read at once.
 pub const READ_MOST: usize = 65_536;
@@ -71,7 +71,12 @@ fn so_far(n: usize, whole: bool) -> usize {
 }
 
 // Takes what is left in the buffer, or fills it again. At the end of the input a last line without a line feed counts too.
-pub fn next(buffer: &mut [u8; READ_MOST], text: &mut [u8; LINE_MOST], input: Input) -> Input
+pub fn next(
+    mut stdin: Stdin,
+    buffer: &mut [u8; READ_MOST],
+    text: &mut [u8; LINE_MOST],
+    input: Input,
+) -> Input
     requires { (input.at ≤ input.end) × (input.end ≤ read_most) }
     ensures { (result.at ≤ result.end) × (result.end ≤ read_most) }
 {
@@ -79,14 +84,22 @@ pub fn next(buffer: &mut [u8; READ_MOST], text: &mut [u8; LINE_MOST], input: Inp
     if input.at < input.end {
         return take(buffer, text, input.at, input.end, n);
     }
-    let got = libc::read(STDIN_FILENO, buffer);
-    let end = io::count(got, buffer);
-    Input {
-        at: 0,
-        end,
-        n,
-        whole: got == 0,
-        over: end == 0,
-        failed: got < 0,
+    match stdin.read(buffer) {
+        Ok(end) => Input {
+            at: 0,
+            end,
+            n,
+            whole: end == 0,
+            over: end == 0,
+            failed: false,
+        },
+        Err(_) => Input {
+            at: 0,
+            end: 0,
+            n,
+            whole: false,
+            over: true,
+            failed: true,
+        },
     }
 }

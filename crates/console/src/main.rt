@@ -22,10 +22,10 @@ ghost use Rattle.std.specs.Prelude.{◌<◌};
 
 use card::layout::{MEMORY, ROW, WORDS};
 use input::READ_MOST;
-use libc::STDERR_FILENO;
 use lines::{ANSWER_MOST, BYTES_MOST, LINE_MOST};
 use output::HELD_MOST;
 use reply::Going;
+use std::io::Stderr;
 
 // How many turns are left after one: none where the console has ended.
 fn left(turns: u64, going: Going) -> u64
@@ -39,20 +39,23 @@ fn left(turns: u64, going: Going) -> u64
 }
 
 // Says on standard error what went wrong: the console script ends with another status than 0 just where something is said there.
-fn report(going: Going) -> bool {
+fn report(stderr: Stderr, going: Going) -> bool {
     match going {
-        Going::NotRead => io::write_all(STDERR_FILENO, b"console: the input could not be read\n"),
-        Going::NotWritten => io::write_all(
-            STDERR_FILENO,
-            b"console: an answer could not be written\n",
-        ),
+        Going::NotRead => stderr
+            .write_all(b"console: the input could not be read\n")
+            .is_ok(),
+        Going::NotWritten => stderr
+            .write_all(b"console: an answer could not be written\n")
+            .is_ok(),
         _ => true,
     }
 }
 
 // Goes on while there is input and answers can be written. Nothing says that the input ends, so the loop counts its turns down
 // from a number that no run uses up.
-fn main() {
+fn main(rt: HostRuntime) {
+    let stdin = rt.stdin();
+    let stdout = rt.stdout();
     let mut words = [0u32; WORDS];
     let mut memory = [0u8; MEMORY];
     let mut ports = [0u8; ROW];
@@ -70,6 +73,8 @@ fn main() {
     let mut turns = u64::MAX;
     while turns > 0 {
         state = reply::go_on(
+            stdin,
+            stdout,
             &mut words,
             &mut memory,
             &mut ports,
@@ -87,5 +92,5 @@ fn main() {
         turns = left(turns, going);
     }
     let end = state.going;
-    report(end);
+    report(rt.stderr(), end);
 }

@@ -4,8 +4,8 @@ ghost use Rattle.lines.specs.Lent.{answer_most};
 ghost use Rattle.console.specs.Holding.{Followed};
 ghost use Rattle.console.specs.Lent.{held_most};
 
-use libc::STDOUT_FILENO;
 use lines::{ANSWER_MOST, text};
+use std::io::Stdout;
 
 // Room for as much as an answer's buffer, which may be held on, and for an answer more.
 pub const HELD_MOST: usize = 2 * ANSWER_MOST;
@@ -28,7 +28,7 @@ pub struct Kept {
 }
 
 // Writes the n bytes that are held, if no input is left to take or the next answer might not fit.
-pub fn settle(held: &[u8; HELD_MOST], n: usize, left: bool) -> Kept
+pub fn settle(stdout: Stdout, held: &[u8; HELD_MOST], n: usize, left: bool) -> Kept
     requires { n ≤ held_most }
     ensures { (result.held ≤ answer_most) × (left ≡ false → result.held ≡ 0) }
 {
@@ -43,6 +43,6 @@ pub fn settle(held: &[u8; HELD_MOST], n: usize, left: bool) -> Kept
     let answers: &[u8] = held;
     Kept {
         held: 0,
-        written: io::write_all(STDOUT_FILENO, &answers[..n]),
+        written: stdout.write_all(&answers[..n]).is_ok(),
     }
 }

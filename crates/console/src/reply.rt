@@ -18,6 +18,7 @@ use crate::{
 };
 use card::layout::{MEMORY, ROW, WORDS};
 use lines::{ANSWER_MOST, BYTES_MOST, LINE_MOST, UNREAD, text, usage};
+use std::io::{Stdin, Stdout};
 
 // Whether the console goes on; and if not, why.
 #[derive(Clone, Copy)]
@@ -205,6 +206,8 @@ fn goes_on(over: bool, failed: bool, written: bool) -> Going {
 
 // Reads on, and answers the line if it is whole. Nothing is held when the buffer is filled again.
 pub fn go_on(
+    stdin: Stdin,
+    stdout: Stdout,
     words: &mut [u32; WORDS],
     memory: &mut [u8; MEMORY],
     ports: &mut [u8; ROW],
@@ -224,7 +227,7 @@ pub fn go_on(
     let e = state.exchange;
     let before = state.asked;
     let taken = state.input;
-    let input = input::next(buffer, text, taken);
+    let input = input::next(stdin, buffer, text, taken);
     let line: &[u8] = text;
     let question = question::read_line(line, input.n, input.whole);
     let call = question.call;
@@ -245,7 +248,7 @@ pub fn go_on(
         out,
     );
     let n = tell(question, line, did.len, out, held, state.held);
-    let kept = output::settle(held, n, input.at < input.end);
+    let kept = output::settle(stdout, held, n, input.at < input.end);
     let exchange = did.exchange;
     let asked = did.asked;
     State {

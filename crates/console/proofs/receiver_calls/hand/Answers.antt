@@ -1,0 +1,8 @@
+-- `console::receiver_calls::hand` meets its contract. Assumes nothing.
+use Rattle.console.proofs.Answers.{answer_fits}
+use Rattle.console.proofs.Receipts.{takes_few}
+use Rattle.console.proofs.receiver_calls.hand.Goals as goal
+
+pub returns : goal.returns
+returns c = let took = c.receive.ensures in
+    (rw took.counted (takes_few _ _ _ _), answer_fits took.gave)
