@@ -17,8 +17,6 @@ WORDS = {"use", "module", "--", "open", "let", "where", "in", "elim", "pub", "da
 LAW = "_law"
 # Pairs of which the kit's port.py already spelled the law as the definition is spelled now.
 TURNED = ["all_in", "all_asked", "fit_words", "held_by", "no_value", "read_length"]
-# Names with a sign in them.
-SIGNS = {"sameB→eq": "same_bytes_eq", "sameF→eq": "same_fields_eq", "sameZ→eq": "same_sizes_eq"}
 
 
 def snake(name):
@@ -44,7 +42,7 @@ def declared():
 
 def spelled(names):
     """Each name that changes, with its new spelling."""
-    turned = dict(SIGNS)
+    turned = {}
     defined = {snake(n) for n in names if "-" not in n}
     for n in TURNED:
         turned[n] = n + LAW

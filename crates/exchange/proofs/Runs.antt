@@ -100,7 +100,7 @@ sent_again : Runs two fresh (whole ++ (Other (Frame Datalink 38 (acknowledge_fra
 unfolding computed allows
 sent_again = record { asked = refl; allowed = refl; said = refl; held = refl }
 
--- read_only: no echo, so the exchange ends there
+-- read-only: no echo, so the exchange ends there
 read_only : Runs (record { ia = 3; address = 0x100F; ask = bytes (8 ∷ 12 ∷ []) }) fresh (alone ∷ arrives ∷ alone ∷ []) Unknown 0x1010 255
 unfolding computed allows
 read_only = record { asked = refl; allowed = refl; said = refl; held = refl }
