@@ -1,3 +1,4 @@
+pub mod Hearings
 pub mod Cards
 pub mod Compared
 pub mod Temperatures

@@ -1,6 +1,6 @@
 -- A word is a temperature exactly if some code gives it, in tenths and in hundredths. Assumes nothing.
-use Prim.{tt}
 use Rattle.std.proofs.Common.{◌≡◌, ℕ, ◌+◌, ◌-◌, ◌*◌, ◌/◌, ◌%◌, ◌<◌, ◌≤◌, true, ◌||◌, eqb, ltb, leb, sym, arith, le-ltb, eqb-true, leb-true}
+use Prim.{tt}
 use native.Mathlib.Decide.{dec_lt}
 use Rattle.wire.specs.Word.{word_values}
 use Rattle.wire.proofs.Sweep.{swept}

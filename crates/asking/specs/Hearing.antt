@@ -1,11 +1,13 @@
 -- What a master hears in a reply. Document 02, M-102: "read each reply, refusals included"; "a reply that 01 has neither as an answer to that
 -- request nor as a refusal from that address is 3, but 4 if only its check characters are wrong".
-use Rattle.std.specs.Prelude.{ℕ, Bool, true, false, List, [], ◌∷◌, take, ◌==◌}
+use Rattle.std.specs.Prelude.{ℕ, Bool, true, false, List, [], ◌∷◌, take, ◌==◌, Result, Ok, Err}
 use Rattle.wire.specs.Choose.{choose}
-use Rattle.card.specs.Numbers.{done, value_outside}
-use Rattle.asking.specs.declared.Group.{Group}
-use Rattle.asking.specs.declared.Heard.{Heard}
-use Rattle.asking.specs.declared.Heard.TheVariants.{Value, Values, Done as HeardDone, Fault as HeardFault, Refused as HeardRefused, RefusedFor, Unread as HeardUnread}
+use Rattle.card.specs.Numbers.{done, frame_form, check_character, value_outside}
+use Rattle.asking.specs.declared.hearing.Group.{Group}
+use Rattle.asking.specs.declared.hearing.Heard.{Heard}
+use Rattle.asking.specs.declared.hearing.Heard.TheVariants.{Value, Values, Done as HeardDone, Fault as HeardFault, Refused as HeardRefused, RefusedFor}
+use Rattle.asking.specs.declared.hearing.Unread.{Unread as Why}
+use Rattle.asking.specs.declared.hearing.Unread.TheVariants.{Form, Check, Request}
 
 pub data Hearing : Type 0 where
   -- a value; of a group one for each channel, lowest first
@@ -19,17 +21,32 @@ pub data Hearing : Type 0 where
 
 -- a group's values
 abbrev pub values_in : Group → List ℕ
-values_in g = take g.count (g.first ∷ g.second ∷ g.third ∷ g.fourth ∷ [])
+values_in g = take g.count g.values
 
--- the hearing that each case of the enum is
-abbrev pub hearing_of : Heard → Hearing
-hearing_of (Value value) = Gives (value ∷ [])
-hearing_of (Values group) = Gives (values_in group)
-hearing_of HeardDone = Done
-hearing_of HeardFault = Fault
-hearing_of HeardRefused = Refused []
-hearing_of (RefusedFor code) = Refused (code ∷ [])
-hearing_of (HeardUnread number) = Unread number
+-- what each case of the enum says
+abbrev pub said_of : Heard → Hearing
+said_of (Value value) = Gives (value ∷ [])
+said_of (Values group) = Gives (values_in group)
+said_of HeardDone = Done
+said_of HeardFault = Fault
+said_of HeardRefused = Refused []
+said_of (RefusedFor code) = Refused (code ∷ [])
+
+-- the number of each reason why nothing is said
+abbrev pub number_in : Why → ℕ
+number_in Form = frame_form
+number_in Check = check_character
+number_in Request = value_outside
+
+-- the hearing that a result is
+abbrev pub hearing_of : Result Heard Why → Hearing
+hearing_of (Ok said) = said_of said
+hearing_of (Err why) = Unread (number_in why)
+
+-- what a comparison came to, by its number: 1 or the reason's
+abbrev pub outcome_of : Result Unit Why → ℕ
+outcome_of (Ok _) = done
+outcome_of (Err why) = number_in why
 
 -- the number of each hearing: "done is 1, since no bytes are handed over"
 abbrev pub number_of : Hearing → ℕ

@@ -2,6 +2,7 @@
 -- Assumes nothing.
 use Rattle.std.proofs.Common.{◌≡◌, ℕ, zero, suc, ◌+◌, ◌-◌, ◌*◌, ◌/◌, ◌%◌, ◌^◌, ◌<◌, ◌≤◌, List, length, get_or, sym, refl, ap, ◌∙◌, mul_assoc, pow-suc, div-one, arith, ext_get_or, shr-shr}
 use lib.Pow.{high, low}
+use Rattle.std.specs.Int.{from_be_bytes, w64}
 use Rattle.bits.specs.Bits.{bit, field}
 
 -- each byte of an image is below 256
@@ -16,6 +17,10 @@ pub field_lt : (img : List ℕ) (p w : ℕ) → field img p w < 2 ^ w
 unfolding field
 field_lt img p zero = omega arith
 field_lt img p (suc w) = omega (arith, field_lt img p w, bit_lt img (p + w), pow-suc 2 w)
+
+pub field_none : (img : List ℕ) (p : ℕ) → field img p 0 ≡ 0
+unfolding field
+field_none img p = refl
 
 -- a field is its left part before its right part
 pub field_append : (img : List ℕ) (p a b : ℕ) → field img p (a + b) ≡ field img p a * 2 ^ b + field img (p + a) b
@@ -77,6 +82,12 @@ field_bytes img f j h =
     let e : 8 * (j + 1) ≡ 8 * j + 8 = omega arith in
     let q : 8 * f + 8 * j ≡ 8 * (f + j) = omega arith in
     rw (e, field_append img (8 * f) (8 * j) 8, q, field_byte img (f + j) h)
+
+-- eight bytes, as the library reads a number from them
+pub field_window : (img bs : List ℕ) (f : ℕ) → Bytes img → ((i : ℕ) → i < 8 → get_or bs i 0 ≡ get_or img (f + i) 0) → from_be_bytes w64 bs ≡ field img (8 * f) 64
+field_window img bs f h same =
+    let at : (i : ℕ) → field img (8 * f) (8 * (i + 1)) ≡ field img (8 * f) (8 * i) * 256 + get_or img (f + i) 0 = λ i. field_bytes img f i (h (f + i)) in
+    omega (arith, field_none img (8 * f), at 0, at 1, at 2, at 3, at 4, at 5, at 6, at 7, same 0 (omega arith), same 1 (omega arith), same 2 (omega arith), same 3 (omega arith), same 4 (omega arith), same 5 (omega arith), same 6 (omega arith), same 7 (omega arith))
 
 -- images that agree in every byte's field are equal
 pub image_ext_bytes : (a b : List ℕ) → Bytes a → Bytes b → length a ≡ length b → ((k : ℕ) → k < length a → field a (8 * k) 8 ≡ field b (8 * k) 8) → a ≡ b

@@ -5,9 +5,6 @@
 ghost use Rattle.std.specs.Prelude.{◌≡◌, ℕ, ◌+◌, ◌*◌, ◌/◌, ◌%◌, ◌^◌, ◌<◌, ◌≤◌, length, replicate};
 ghost use Rattle.bits.specs.Bits.{byte_values, field, put_field, widest, longest, window_bytes, window_bits, Within};
 ghost use Rattle.bits.specs.Fields.{fields, WithinAll};
-ghost use Rattle.bits.specs.Packing.{packed, place_of, Packs};
-
-use std::num::wrapping_add_u64;
 
 // The bits of a byte, and how many values it has.
 const BYTE_BITS: usize = 8;
@@ -24,30 +21,14 @@ const WORD_BITS: usize = 32;
 
 const WORD: usize = WORD_BITS / BYTE_BITS;
 
-fn wide(x: u8) -> u64
-    ensures { result ≡ x }
-{
-    x as u64
-}
-
-fn low_byte(n: u64) -> u8
-    ensures { result ≡ n % byte_values }
-{
-    (n % BYTE_VALUES) as u8
-}
-
 // The number that the bytes of the window from byte `first` on stand for.
 fn window(image: &[u8], first: usize) -> u64
     requires { first + window_bytes ≤ length image.now }
     ensures { result ≡ field image.now (8 * first) window_bits }
 {
-    let mut n: u64 = 0;
-    let mut i: usize = 0;
-    while i < WINDOW {
-        n = n * BYTE_VALUES + wide(image[first + i]);
-        i += 1;
-    }
-    n
+    let mut bytes = [0u8; WINDOW];
+    bytes.copy_from_slice(&image[first..first + WINDOW]);
+    u64::from_be_bytes(bytes)
 }
 
 // The first byte of a window that holds a field from a place on: the last window of the image ends with it.
@@ -55,14 +36,10 @@ fn window_at(len: usize, place: usize) -> usize
     requires { (window_bytes ≤ len) × (len ≤ longest) }
     ensures { (8 * result ≤ place) × (result + window_bytes ≤ len) × ((end : ℕ) → end ≤ place + widest → end ≤ 8 * len → end ≤ 8 * result + window_bits) }
 {
-    let first = place / BYTE_BITS;
-    if len - WINDOW < first {
-        return len - WINDOW;
-    }
-    first
+    (place / BYTE_BITS).min(len - WINDOW)
 }
 
-// 2 ^ k.
+// 2 ^ k. A function, since it promises that nothing is cut off, to `middle` and to `low_bits`.
 fn weight(k: usize) -> u64
     requires { k ≤ widest }
     ensures { result ≡ 2 ^ k }
@@ -94,11 +71,9 @@ pub fn read_fields(out: &mut [u32], image: &[u8], place: usize, width: usize)
     ensures { out.new ≡ fields image.now place (replicate (length out.old) width) }
 {
     let mut here = place;
-    let mut i: usize = 0;
-    while i < out.len() {
-        out[i] = read_field(image, here, width);
+    for value in out.iter_mut() {
+        *value = read_field(image, here, width);
         here += width;
-        i += 1;
     }
 }
 
@@ -110,29 +85,31 @@ pub struct BitReader<'a> {
     pub place: usize,
 }
 
-// A reader at the image's first bit.
-pub fn reader<'a>(image: &'a [u8]) -> BitReader<'a>
-    ensures { (result.image ≡ image.entry) × (result.place ≡ 0) }
-{
-    BitReader { image, place: 0 }
-}
+impl<'a> BitReader<'a> {
+    // A reader at the image's first bit.
+    pub fn new(image: &'a [u8]) -> BitReader<'a>
+        ensures { (result.image ≡ image.entry) × (result.place ≡ 0) }
+    {
+        BitReader { image, place: 0 }
+    }
 
-// The reader's next field of `width` bits.
-pub fn value<'a>(r: BitReader<'a>, width: usize) -> u32
-    requires { Within r.image.now r.place width }
-    ensures { result ≡ field r.entry.image.now r.entry.place width }
-{
-    read_field(r.image, r.place, width)
-}
+    // The reader's next field of `width` bits.
+    pub fn value(self, width: usize) -> u32
+        requires { Within self.image.now self.place width }
+        ensures { result ≡ field self.entry.image.now self.entry.place width }
+    {
+        read_field(self.image, self.place, width)
+    }
 
-// The reader, moved on by `width` bits.
-pub fn moved<'a>(r: BitReader<'a>, width: usize) -> BitReader<'a>
-    requires { r.place + width < 2 ^ 64 }
-    ensures { (result.image ≡ r.entry.image) × (result.place ≡ r.entry.place + width) }
-{
-    BitReader {
-        image: r.image,
-        place: r.place + width,
+    // The reader, moved on by `width` bits.
+    pub fn moved(self, width: usize) -> BitReader<'a>
+        requires { self.place + width < 2 ^ 64 }
+        ensures { (result.image ≡ self.entry.image) × (result.place ≡ self.entry.place + width) }
+    {
+        BitReader {
+            place: self.place + width,
+            ..self
+        }
     }
 }
 
@@ -142,20 +119,10 @@ fn scatter(image: &mut [u8], first: usize, count: usize, n: u64)
     ensures { image.new ≡ put_field image.old (8 * first) (8 * count) n }
 {
     let mut rest = n;
-    let mut left = count;
-    while 0 < left {
-        left -= 1;
-        image[first + left] = low_byte(rest);
-        rest = rest / BYTE_VALUES;
+    for left in (0..count).rev() {
+        image[first + left] = (rest % BYTE_VALUES) as u8;
+        rest /= BYTE_VALUES;
     }
-}
-
-// Fields on their way into an image: the bytes before byte `at` are written, and the `count` low bits of `held` come next.
-#[derive(Clone, Copy)]
-pub struct Packed {
-    pub at: usize,
-    pub held: u64,
-    pub count: usize,
 }
 
 // The `width` low bits of value.
@@ -163,36 +130,59 @@ fn low_bits(value: u32, width: usize) -> u64
     requires { width ≤ widest }
     ensures { result ≡ value % 2 ^ width }
 {
-    value as u64 % weight(width)
+    u64::from(value) % weight(width)
 }
 
-// The field of `width` bits that comes next becomes the low bits of value.
-pub fn put_field(image: &mut [u8], p: Packed, width: usize, value: u32) -> Packed
-    requires { Packs image.old p width × (width ≤ widest) }
-    ensures { (packed image.new result ≡ put_field (packed image.old p) (place_of p) width value) × (place_of result ≡ place_of p + width) × (result.count < widest) }
-{
-    let held = wrapping_add_u64(p.held << width, low_bits(value, width));
-    let count = p.count + width;
-    let at = p.at;
-    if count < WORD_BITS {
-        return Packed { at, held, count };
-    }
-    let left = count - WORD_BITS;
-    scatter(image, at, WORD, held >> left);
-    Packed {
-        at: at + WORD,
-        held,
-        count: left,
-    }
+// Fields on their way into an image: the bytes before byte `at` are written, and the `count` low bits of `held` come next.
+// The image is lent to each call: kept in here, each contract would have to say as well that it is still the same one.
+#[derive(Clone, Copy)]
+pub struct Packed {
+    pub at: usize,
+    pub held: u64,
+    pub count: usize,
+    pub ghost few: { count < widest },
 }
 
-// The image, with the bits that are held written: whole bytes.
-pub fn finish(image: &mut [u8], p: Packed)
-    requires { Packs image.old p 0 × (p.count % 8 ≡ 0) }
-    ensures { image.new ≡ packed image.old p }
-{
-    let at = p.at;
-    let held = p.held;
-    let count = p.count / BYTE_BITS;
-    scatter(image, at, count, held);
+impl Packed {
+    ghost use Rattle.bits.specs.Packing.{packed, place_of, Packs};
+
+    // At an image's first bit.
+    pub fn new() -> Packed
+        ensures { (result.at ≡ 0) × (result.held ≡ 0) × (result.count ≡ 0) }
+    {
+        Packed {
+            at: 0,
+            held: 0,
+            count: 0,
+        }
+    }
+
+    // The field of `width` bits that comes next becomes the low bits of value.
+    pub fn put_field(self, image: &mut [u8], width: usize, value: u32) -> Packed
+        requires { Packs image.old self width × (width ≤ widest) }
+        ensures { (packed image.new result ≡ put_field (packed image.old self) (place_of self) width value) × (place_of result ≡ place_of self + width) }
+    {
+        let held = (self.held << width).wrapping_add(low_bits(value, width));
+        let count = self.count + width;
+        let at = self.at;
+        if count < WORD_BITS {
+            return Packed { at, held, count };
+        }
+        let left = count - WORD_BITS;
+        scatter(image, at, WORD, held >> left);
+        Packed {
+            at: at + WORD,
+            held,
+            count: left,
+        }
+    }
+
+    // The image, with the bits that are held written: whole bytes.
+    pub fn finish(self, image: &mut [u8])
+        requires { Packs image.old self 0 × (self.count % 8 ≡ 0) }
+        ensures { image.new ≡ packed image.old self }
+    {
+        let count = self.count / BYTE_BITS;
+        scatter(image, self.at, count, self.held);
+    }
 }

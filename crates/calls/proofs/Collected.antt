@@ -1,15 +1,7 @@
 -- Demand 2 over collected frames: a frame, fed to a receiver at rest in any division and then given to its entry, gets the number, the answer and the tables of
+use Rattle.std.proofs.Common.{◌≡◌, ℕ, zero, suc, ◌+◌, ◌-◌, ◌*◌, ◌<◌, ◌≤◌, Bool, true, false, eqb, leb, List, [], ◌∷◌, ◌++◌, length, get_or, take, drop, set, bit_and, bit_or, Ok, Err, Result, sym, refl, ap, ◌∙◌, subst, ap₂, arith, length-append, length-drop, length-set, get_or-drop, get_or-take, eqb-true, le-leb}
 -- that frame. Assumes nothing.
-use mathlib.Core.Path.{◌≡◌, refl, sym, ap, ap₂, ◌∙◌, subst}
-use mathlib.Core.Bool.{Bool, true, false}
-use mathlib.Core.List.{List, [], ◌∷◌, ◌++◌}
-use Prim.Native.Nat.{ℕ, zero, suc, ◌+◌, ◌-◌, ◌*◌, ◌≤◌, ◌<◌}
-use native.Mathlib.Omega.{arith}
-use borrow.Author.Tests.{le-leb, eqb-true, eqb-false}
-use lib.Bits.{bit_and, bit_or}
-use lib.Dec.{leb, eqb}
-use lib.ListN.{length, get_or, take, drop, set, length-append, length-drop, length-set}
-use lib.Seq.{get_or-take, get_or-drop}
+use borrow.Author.Tests.{eqb-false}
 use Rattle.wire.specs.Choose.{choose}
 use Rattle.wire.specs.Buffer.{overlay}
 use Rattle.wire.proofs.Cases.{by_both}
@@ -27,7 +19,8 @@ use Rattle.card.proofs.Rows.{same_pending_fit}
 use Rattle.datalink.specs.Frame.{asked}
 use Rattle.datalink.specs.Answer.{ia_of, shown, interrogated, body_of, pended, echoed, new_byte, changed, applied_to, applied, acknowledged, obeyed, datalink_reply}
 use Rattle.datalink.specs.declared.frame.Order.{Order}
-use Rattle.datalink.specs.declared.frame.Order.TheVariants.{Silent, Interrogate, Change, Acknowledge}
+use Rattle.datalink.specs.declared.frame.Silent.{Silent}
+use Rattle.datalink.specs.declared.frame.Order.TheVariants.{Interrogate, Change, Acknowledge}
 use Rattle.datalink.proofs.Frames.{pending_named}
 use Rattle.lecom.specs.Answer.{lecom_reply}
 use Rattle.love.specs.Answer.{love_reply}
@@ -137,12 +130,12 @@ module _ (w m p p' : List ℕ) (e : take pending_size p' ≡ take pending_size p
       kinds (suc k) [] (y' ∷ q') h = let n : suc (length (take k q')) ≡ 0 = ap length h in let z : ⊥ = omega arith in absurd z
       kinds (suc k) (y ∷ q) [] h = let n : 0 ≡ suc (length (take k q)) = ap length h in let z : ⊥ = omega arith in absurd z
 
-  obeyed_alone : (f : List ℕ) (o : Order) → fit c ≡ true → SameReply (obeyed c f o) (obeyed c' f o)
+  obeyed_alone : (f : List ℕ) (o : Result Order Silent) → fit c ≡ true → SameReply (obeyed c f o) (obeyed c' f o)
   unfolding obeyed interrogated shown echoed acknowledged ia_of
-  obeyed_alone f (Silent number) t = same_reply number [] alone
-  obeyed_alone f (Interrogate at n) t = same_reply answered _ alone
-  obeyed_alone f (Change kind num) t = same_reply answered _ (pended_alone kind (body_of f num))
-  obeyed_alone f Acknowledge t =
+  obeyed_alone f (Err refusal) t = same_reply refusal.0 [] alone
+  obeyed_alone f (Ok (Interrogate at n)) t = same_reply answered _ alone
+  obeyed_alone f (Ok (Change kind num)) t = same_reply answered _ (pended_alone kind (body_of f num))
+  obeyed_alone f (Ok Acknowledge) t =
       subst (λ (k : ℕ). SameReply (acknowledged c) (choose (eqb k no_change) (silent nothing_pending c') (silent done (applied c')))) (sym (pending_at kind_at (omega arith)))
       (by_both SameReply (eqb (get_or p kind_at 0) no_change) _ _ _ _ (λ _. same_reply nothing_pending [] alone) (λ some. same_reply done [] (applied_alone t (eqb-false (get_or p kind_at 0) no_change some))))
 

@@ -1,9 +1,6 @@
 -- A fit card stays fit, whatever the call. Assumes nothing.
+use Rattle.std.proofs.Common.{◌≡◌, ℕ, true, List}
 use Prim.{Unit}
-use Prim.Native.Nat.{ℕ}
-use mathlib.Core.Path.{◌≡◌}
-use mathlib.Core.Bool.{true}
-use mathlib.Core.List.{List}
 use Rattle.card.specs.Layout.{Card}
 use Rattle.card.specs.Fitness.{fit}
 use Rattle.card.proofs.Fits.{IsFit, set_code_stays_fit, restart_stays_fit, governor_stays_fit}

@@ -1,6 +1,5 @@
 -- A refusal changes no table, whatever the call and whatever the tables. Assumes nothing.
-use Prim.Native.Nat.{ℕ}
-use mathlib.Core.List.{List}
+use Rattle.std.proofs.Common.{ℕ, List}
 use Rattle.card.specs.Layout.{Card}
 use Rattle.card.specs.Reply.{Keeps}
 use Rattle.card.proofs.Laws.{set_code_keeps, restart_keeps, governor_keeps}

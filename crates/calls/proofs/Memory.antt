@@ -1,16 +1,6 @@
 -- Writable memory and the pending change under every call: memory from 1010h on stays, and the pending change stays or is dropped, unless a
+use Rattle.std.proofs.Common.{◌≡◌, ℕ, ◌+◌, ◌-◌, ◌≤◌, Bool, true, false, ltb, leb, ◌⊎◌, List, [], ◌∷◌, ◌++◌, get_or, take, drop, replicate, Ok, Err, Result, sym, refl, ap, ◌∙◌, subst, inl, inr, arith, get_or-drop, get_or-set_other, get_or-append-add, ltb-true, leb-true}
 -- Datalink change or acknowledge is accepted. Assumes nothing.
-use mathlib.Core.Path.{◌≡◌, refl, sym, ap, ◌∙◌, subst}
-use mathlib.Core.Bool.{Bool, true, false}
-use mathlib.Core.List.{List, [], ◌∷◌, ◌++◌}
-use mathlib.Core.Logic.{◌⊎◌}
-use mathlib.Core.Logic.◌⊎◌.{inl, inr}
-use Prim.Native.Nat.{ℕ, ◌+◌, ◌-◌, ◌≤◌}
-use native.Mathlib.Omega.{arith}
-use borrow.Author.Tests.{leb-true, ltb-true}
-use lib.Dec.{leb, ltb}
-use lib.ListN.{get_or, take, drop, replicate}
-use lib.Seq.{get_or-drop, get_or-append-add, get_or-set_other}
 use Rattle.wire.specs.Buffer.{put}
 use Rattle.wire.proofs.Cases.{by_choice}
 use Rattle.card.specs.Numbers.{foreign_address, card_unfit, buffer_short, range_unknown}
@@ -24,7 +14,8 @@ use Rattle.card.specs.Entries.{dropped, faulted, restarted, restart, with_code, 
 use Rattle.datalink.specs.Frame.{asked}
 use Rattle.datalink.specs.Answer.{ia_of, interrogated, obeyed, datalink_reply}
 use Rattle.datalink.specs.declared.frame.Order.{Order}
-use Rattle.datalink.specs.declared.frame.Order.TheVariants.{Silent, Interrogate, Change, Acknowledge}
+use Rattle.datalink.specs.declared.frame.Silent.{Silent}
+use Rattle.datalink.specs.declared.frame.Order.TheVariants.{Interrogate, Change, Acknowledge}
 use Rattle.datalink.proofs.Laws.{keeps as datalink-keeps}
 use Rattle.lecom.specs.Answer.{lecom_reply}
 use Rattle.love.specs.Answer.{love_reply}
@@ -108,12 +99,12 @@ mild_read : (card : Card) (img : List ℕ) → MildReply card (read_image card i
 mild_read card img = mild_words card _ (read_memory card img) (read_ports card img)
 
 -- a Datalink frame that asks for no change and no acknowledge
-unasked : (card : Card) (f : List ℕ) (o : Order) → writes o ≡ false → (obeyed card f o).card ≡ card
+unasked : (card : Card) (f : List ℕ) (o : Result Order Silent) → writes o ≡ false → (obeyed card f o).card ≡ card
 unfolding obeyed interrogated
-unasked card f (Silent number) e = refl
-unasked card f (Interrogate at n) e = refl
-unasked card f (Change kind num) e = let z : ◌≡◌ {A = ℕ} 0 1 = cc in let y : ⊥ = omega arith in absurd y
-unasked card f Acknowledge e = let z : ◌≡◌ {A = ℕ} 0 1 = cc in let y : ⊥ = omega arith in absurd y
+unasked card f (Err refusal) e = refl
+unasked card f (Ok (Interrogate at n)) e = refl
+unasked card f (Ok (Change kind num)) e = let z : ◌≡◌ {A = ℕ} 0 1 = cc in let y : ⊥ = omega arith in absurd y
+unasked card f (Ok Acknowledge) e = let z : ◌≡◌ {A = ℕ} 0 1 = cc in let y : ⊥ = omega arith in absurd y
 
 mild_datalink : (card : Card) (room : ℕ) (f : List ℕ) → (writes (asked (ia_of card) f) ≡ true → refused (datalink_reply card room f).number ≡ true) → MildReply card (datalink_reply card room f)
 unfolding datalink_reply

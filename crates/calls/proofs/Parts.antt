@@ -1,14 +1,7 @@
 -- Part frames under every call: of a card that is ready each stays, but for a restart and its own receiver's calls. Assumes nothing.
-use mathlib.Core.Path.{◌≡◌, refl, ap, ◌∙◌, subst}
-use mathlib.Core.Bool.{true}
-use mathlib.Core.List.{List, ◌∷◌, ◌++◌}
-use mathlib.Core.Logic.◌⊎◌.{inr}
+use Rattle.std.proofs.Common.{◌≡◌, ℕ, ◌+◌, ◌-◌, ◌≤◌, true, eqb, ltb, leb, List, ◌∷◌, ◌++◌, length, get_or, drop, Ok, Err, Result, refl, ap, ◌∙◌, subst, inr, arith, length-append, length-drop, length-take, drop-drop}
 use Prim.{Unit}
-use Prim.Native.Nat.{ℕ, ◌+◌, ◌-◌, ◌≤◌}
-use native.Mathlib.Omega.{arith}
-use lib.Dec.{leb, eqb, ltb}
-use lib.ListN.{length, get_or, drop, length-take, length-append, length-drop}
-use lib.Seq.{drop-append-add, drop-drop}
+use lib.Seq.{drop-append-add}
 use Rattle.wire.specs.Buffer.{overlay}
 use Rattle.wire.proofs.Cases.{by_choice}
 use Rattle.card.specs.Layout.{Card, channels, pending_size, kind_at}
@@ -22,7 +15,8 @@ use Rattle.datalink.specs.Frame.{asked}
 use Rattle.datalink.specs.Answer.{ia_of, interrogated, body_of, pended, echoed, applied, acknowledged, obeyed, datalink_reply}
 use Rattle.datalink.specs.Stages.{Sound}
 use Rattle.datalink.specs.declared.frame.Order.{Order}
-use Rattle.datalink.specs.declared.frame.Order.TheVariants.{Silent, Interrogate, Change, Acknowledge}
+use Rattle.datalink.specs.declared.frame.Silent.{Silent}
+use Rattle.datalink.specs.declared.frame.Order.TheVariants.{Interrogate, Change, Acknowledge}
 use Rattle.datalink.proofs.Frames.{asked_sound}
 use Rattle.lecom.specs.Answer.{lecom_reply}
 use Rattle.love.specs.Answer.{love_reply}
@@ -60,13 +54,13 @@ body_few : (f : List ℕ) (num : ℕ) → length (body_of f num) ≤ 3 + num
 unfolding body_of
 body_few f num = rw (length-take (frame_data_at + num - frame_num_at) (drop frame_num_at f)) (omega arith)
 
-obeyed_inside : (card : Card) (f : List ℕ) (o : Order) → fit card ≡ true → Sound f o → InPending card (obeyed card f o)
+obeyed_inside : (card : Card) (f : List ℕ) (o : Result Order Silent) → fit card ≡ true → Sound f o → InPending card (obeyed card f o)
 unfolding obeyed interrogated echoed pended acknowledged applied dropped
-obeyed_inside card f (Silent number) e k = inside_none 0 pending_size card.ports
-obeyed_inside card f (Interrogate at n) e k = inside_none 0 pending_size card.ports
-obeyed_inside card f (Change kind num) e k =
+obeyed_inside card f (Err refusal) e k = inside_none 0 pending_size card.ports
+obeyed_inside card f (Ok (Interrogate at n)) e k = inside_none 0 pending_size card.ports
+obeyed_inside card f (Ok (Change kind num)) e k =
     inside_over (kind ∷ body_of f num) card.ports (omega (arith, body_few f num, k.1.0)) (omega (arith, (fit_facts card e).ports_length))
-obeyed_inside card f Acknowledge e k =
+obeyed_inside card f (Ok Acknowledge) e k =
     by_choice (InPending card) (eqb (get_or card.ports kind_at 0) no_change) _ _ (λ _. inside_none 0 pending_size card.ports) (λ _. inside_set 0 pending_size card.ports kind_at no_change (omega arith) (omega arith))
 
 datalink_inside : (card : Card) (room : ℕ) (f : List ℕ) → InPending card (datalink_reply card room f)
@@ -77,7 +71,7 @@ datalink_inside card room f =
     none : Inside 0 pending_size card.ports card.ports
     none = inside_none 0 pending_size card.ports
 
-    order : fit card ≡ true → (o : Order) → Sound f o → InPending card (obeyed card f o)
+    order : fit card ≡ true → (o : Result Order Silent) → Sound f o → InPending card (obeyed card f o)
     order e o k = obeyed_inside card f o e k
 
 -- a call that is not the part frame's own: no restart, and none of the dialect's receiver

@@ -1,5 +1,5 @@
 -- Every entry of the card as a call with any arguments, and what it gives. A new entry is one more constructor here, and one line in each law of proofs.
-use Rattle.std.specs.Prelude.{ℕ, Bool, true, false, List, leb}
+use Rattle.std.specs.Prelude.{ℕ, Bool, true, false, List, leb, Result, Ok, Err}
 use Rattle.card.specs.Numbers.{foreign_address}
 use Rattle.card.specs.Layout.{Card}
 use Rattle.card.specs.Entries.{set_code, restart}
@@ -8,7 +8,8 @@ use Rattle.card.specs.Reply.{Reply}
 use Rattle.datalink.specs.Frame.{asked}
 use Rattle.datalink.specs.Answer.{ia_of, datalink_reply}
 use Rattle.datalink.specs.declared.frame.Order.{Order}
-use Rattle.datalink.specs.declared.frame.Order.TheVariants.{Silent, Interrogate, Change, Acknowledge}
+use Rattle.datalink.specs.declared.frame.Silent.{Silent}
+use Rattle.datalink.specs.declared.frame.Order.TheVariants.{Interrogate, Change, Acknowledge}
 use Rattle.lecom.specs.Answer.{lecom_reply}
 use Rattle.love.specs.Answer.{love_reply}
 use Rattle.lucid.specs.Answer.{lucid_reply}
@@ -57,11 +58,11 @@ abbrev pub refused : ℕ → Bool
 refused number = leb foreign_address number
 
 -- what a Datalink frame asks is a change (Change or Change Bits) or an acknowledge
-abbrev pub writes : Order → Bool
-writes (Silent number) = false
-writes (Interrogate at n) = false
-writes (Change kind num) = true
-writes Acknowledge = true
+abbrev pub writes : Result Order Silent → Bool
+writes (Err refusal) = false
+writes (Ok (Interrogate at n)) = false
+writes (Ok (Change kind num)) = true
+writes (Ok Acknowledge) = true
 
 abbrev pub frame_writes : Card → Dialect → List ℕ → Bool
 frame_writes card Datalink f = writes (asked (ia_of card) f)

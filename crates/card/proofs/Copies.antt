@@ -1,6 +1,8 @@
 -- Two copies of the saved registers, made word by word. Assumes nothing.
 use Rattle.std.proofs.Common.{◌≡◌, ℕ, suc, ◌+◌, ◌<◌, ◌≤◌, List, ◌++◌, length, get_or, take, drop, set, sym, ap, ◌∙◌, inr, arith, length-append, length-take-le, drop-set-lt}
-use lib.Seq.{paste, paste-suc, length-paste, set-append_left, take-set-lt}
+use Rattle.std.proofs.Math.Seq.{paste, paste-suc, take-set-lt}
+use Rattle.std.proofs.lemmas.List.Edits.{length-paste}
+use Rattle.std.proofs.lemmas.List.{set-append_left}
 use Rattle.wire.specs.Buffer.{put, part}
 use Rattle.wire.proofs.Buffers.{length_part, get_d_part, length_put, drop_put, part_back}
 use Rattle.wire.proofs.Moves.{kept, done}

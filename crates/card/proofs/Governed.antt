@@ -1,6 +1,6 @@
 -- What the governor is told: its case has the number and the values of the paper's list, and comes back from them. Assumes nothing.
 use Rattle.std.proofs.Common.{◌≡◌, ℕ, ◌≤◌, Bool, true, false, eqb, ltb, get_or, refl, ap, ◌∙◌, arith}
-use borrow.Author.Tests.{eqb-false}
+use Rattle.std.proofs.lemmas.Bool.{eqb-false}
 use Rattle.wire.specs.Choose.{choose}
 use Rattle.wire.proofs.Cases.{by_choice}
 use Rattle.card.specs.Numbers.{range_unknown, card_unfit}

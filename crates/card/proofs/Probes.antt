@@ -1,7 +1,7 @@
 -- The probe reading over all codes: 255 is the fault, and every other code is 5 × code − 400 tenths, within −400 to 870. Assumes nothing.
 use Rattle.std.proofs.Common.{◌≡◌, ℕ, ◌*◌, ◌<◌, ◌≤◌, true, not, T, eqb, refl, arith, w32, to_z, ne_eqb}
-use lib.IntN.{sub_ℕ}
-use borrow.Author.Tests.{eqb-false}
+use Rattle.std.proofs.Math.IntN.{sub_ℕ}
+use Rattle.std.proofs.lemmas.Bool.{eqb-false}
 use Rattle.wire.specs.Choose.{choose}
 use Rattle.wire.specs.Word.{minus}
 use Rattle.wire.proofs.Cases.{by_choice}

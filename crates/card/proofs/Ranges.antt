@@ -1,8 +1,8 @@
 -- The range of a word by its index: what the runs of one range are, that words are fit exactly if each is in its range, and that words stay fit
 -- where those stored are in theirs. Assumes nothing.
 use Rattle.std.proofs.Common.{◌≡◌, ℕ, zero, suc, ◌+◌, ◌-◌, ◌%◌, ◌<◌, ◌≤◌, Bool, true, false, ◌&&◌, eqb, ltb, leb, List, [], ◌∷◌, ◌++◌, length, get_or, drop, set, sym, refl, ap, ◌∙◌, subst, not-suc-le-zero, zero-add, arith, length-set, take-append-drop, get_or-set_other, get_or-set_same, drop-drop, le-ltb, lt-ltb, eq-eqb, ne_eqb, eqb-true, le-leb}
-use native.Mathlib.Decide.{dec_lt}
-use borrow.Author.Tests.{lt-leb, eqb-false}
+use Rattle.std.proofs.Math.Decide.{dec_lt}
+use Rattle.std.proofs.lemmas.Bool.{lt-leb, eqb-false}
 use Rattle.wire.specs.Choose.{choose}
 use Rattle.wire.specs.Buffer.{part, put}
 use Rattle.wire.specs.Word.{minus}

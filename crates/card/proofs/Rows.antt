@@ -1,6 +1,6 @@
 -- What a count of a part frame leaves of the row: its length, and the pending change before it. Assumes nothing.
 use Rattle.std.proofs.Common.{◌≡◌, ℕ, ◌+◌, ◌<◌, ◌≤◌, List, length, get_or, take, set, sym, ap, ◌∙◌, arith, length-set, get_or-take}
-use lib.Seq.{take-set-le}
+use Rattle.std.proofs.lemmas.List.{take-set-le}
 use Rattle.card.specs.Layout.{pending_size, kind_at, num_at, low_address_at, high_address_at}
 use Rattle.card.specs.Change.{fit_pending}
 use Rattle.card.specs.Row.{with_count, no_parts}

@@ -1,6 +1,5 @@
 -- One turn of the scans of specs/Scans.antt: what is left of a test after the next words. Assumes nothing.
-use Rattle.std.proofs.Common.{◌≡◌, ℕ, zero, suc, ◌+◌, ◌<◌, ◌≤◌, Bool, true, ◌&&◌, List, [], ◌∷◌, ◌++◌, length, get_or, take, drop, sym, refl, ap, ◌∙◌, add-one, arith, take-append-drop, drop-cons, drop-drop}
-use native.Mathlib.Numerals.{add-two}
+use Rattle.std.proofs.Common.{◌≡◌, ℕ, suc, ◌+◌, ◌<◌, Bool, true, ◌&&◌, List, [], ◌∷◌, ◌++◌, length, get_or, take, drop, sym, refl, ap, ◌∙◌, arith, take-append-drop, drop-cons, drop-drop}
 use Rattle.wire.proofs.Tests.{and_assoc}
 use Rattle.card.specs.Fitness.{in_span, cycle_least, cycle_most, floor_most}
 use Rattle.card.specs.Scans.{all_in, fit_parameters}
@@ -26,23 +25,19 @@ pub all_in_next : (lo hi : ℕ) (s : List ℕ) (i : ℕ) (ok here : Bool) → i 
 unfolding all_in
 all_in_next lo hi s i ok here h e = rw (drop-cons s i 0 h, ← e) (and_assoc ok here (all_in lo hi (drop (suc i) s)))
 
--- the same for a pair of parameters at i and i + 1
-pub parameters_next : (s : List ℕ) (i : ℕ) (ok cycle floor : Bool) → i + 1 < length s → cycle ≡ in_span cycle_least cycle_most (get_or s i 0) → floor ≡ in_span 0 floor_most (get_or s (i + 1) 0)
-    → (ok && fit_parameters (drop i s)) ≡ ((ok && (cycle && floor)) && fit_parameters (drop (i + 2) s))
+-- the same for a pair of parameters and the rest behind it
+pub parameters_next : (pair rest : List ℕ) (ok cycle floor : Bool) → length pair ≡ 2 → cycle ≡ in_span cycle_least cycle_most (get_or pair 0 0) → floor ≡ in_span 0 floor_most (get_or pair 1 0)
+    → (ok && fit_parameters (pair ++ rest)) ≡ ((ok && (cycle && floor)) && fit_parameters rest)
 unfolding fit_parameters
-parameters_next s i ok cycle floor h a b =
-    let b' : floor ≡ in_span 0 floor_most (get_or s (suc i) 0) = rw (add-one i) at b in
-    rw (add-two i, drop-cons s i 0 (omega arith), drop-cons s (suc i) 0 (omega arith), ← a, ← b')
-    (ap (λ (t : Bool). ok && t) (and_assoc cycle floor (fit_parameters (drop (suc (suc i)) s))) ∙ and_assoc ok (cycle && floor) (fit_parameters (drop (suc (suc i)) s)))
+parameters_next [] rest ok cycle floor l a b = let z : ⊥ = omega arith in absurd z
+parameters_next (x ∷ []) rest ok cycle floor l a b = let z : ⊥ = omega arith in absurd z
+parameters_next (x ∷ y ∷ []) rest ok cycle floor l a b =
+    rw (← a, ← b) (ap (λ (t : Bool). ok && t) (and_assoc cycle floor (fit_parameters rest)) ∙ and_assoc ok (cycle && floor) (fit_parameters rest))
+parameters_next (x ∷ y ∷ z ∷ p) rest ok cycle floor l a b = let z : ⊥ = omega arith in absurd z
 
 -- fewer than two words hold no pair
-pub parameters_none : (s : List ℕ) (i : ℕ) → length s ≤ suc i → fit_parameters (drop i s) ≡ true
+pub parameters_none : (s : List ℕ) → length s < 2 → fit_parameters s ≡ true
 unfolding fit_parameters
-parameters_none [] i h = rest i
-  where
-    rest : (j : ℕ) → fit_parameters (drop j []) ≡ true
-    rest zero = refl
-    rest (suc j) = refl
-parameters_none (x ∷ []) zero h = refl
-parameters_none (x ∷ y ∷ s) zero h = let z : ⊥ = omega arith in absurd z
-parameters_none (x ∷ s) (suc i) h = parameters_none s i (omega arith)
+parameters_none [] h = refl
+parameters_none (x ∷ []) h = refl
+parameters_none (x ∷ y ∷ s) h = let z : ⊥ = omega arith in absurd z

@@ -1,7 +1,7 @@
 -- A span of words, counted from its lower end. Assumes nothing.
 use Rattle.std.proofs.Common.{◌≡◌, ℕ, ◌+◌, ◌%◌, ◌<◌, ◌≤◌, true, false, not, ltb, ap, ◌∙◌, add_assoc, arith, le-ltb, lt-ltb, le-leb}
-use native.Mathlib.Decide.{dec_lt}
-use borrow.Author.Tests.{lt-leb}
+use Rattle.std.proofs.Math.Decide.{dec_lt}
+use Rattle.std.proofs.lemmas.Bool.{lt-leb}
 use Rattle.wire.specs.Choose.{choose}
 use Rattle.wire.specs.Word.{word_values}
 use Rattle.card.specs.Fitness.{in_span}

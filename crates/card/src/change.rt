@@ -4,7 +4,6 @@ ghost use Rattle.card.specs.Layout.{row_size};
 ghost use Rattle.card.specs.Change.{in_memory, names_read_only, named, num_right, echoable, two_bytes, fit_pending};
 
 use crate::layout::{DATA_MOST, HIGH_ADDRESS, KIND, LOW_ADDRESS, MEMORY, NUM};
-use wire::BYTE_VALUES;
 
 // Datalink addresses: the first, the one after the last, and the first writable one.
 pub const MEMORY_START: u32 = 0x1000;
@@ -13,10 +12,7 @@ pub const MEMORY_END: u32 = MEMORY_START + MEMORY as u32;
 
 pub const WRITABLE_START: u32 = 0x1010;
 
-// What the high byte of an address counts.
-const HIGH_WEIGHT: u16 = BYTE_VALUES as u16;
-
-// Kinds of a pending change.
+// Kinds of a pending change. Numbers and no enum: the byte of the row that C lends is the kind, and any byte may stand there.
 pub const NO_CHANGE: u8 = 0;
 
 pub const CHANGE: u8 = 1;
@@ -40,7 +36,7 @@ pub fn names_read_only(at: u16, n: u8) -> bool
     (n != 0) & (start < WRITABLE_START)
 }
 
-// How many bytes a change of num data bytes names.
+// How many bytes a change of num data bytes names. Kind and num by themselves: in a frame they are judged before an address is looked at.
 pub fn bytes_named(kind: u8, num: u8) -> u8
     ensures { result ≡ named kind num }
 {
@@ -77,7 +73,7 @@ fn is_echoable(kind: u8, num: u8, at: u16, n: u8) -> bool
 pub fn two_bytes(low: u8, high: u8) -> u16
     ensures { result ≡ two_bytes low high }
 {
-    low as u16 + HIGH_WEIGHT * (high as u16)
+    u16::from_le_bytes([low, high])
 }
 
 // Whether the pending change is none, or as it was echoed.

@@ -10,7 +10,6 @@ use crate::layout::{
     BUFFER, DEMANDS, IA, LECOM_ADDRESS, LOVE, LOVE_ADDRESS, MEMORY, PARAMETERS, PARAMETERS_EACH,
     REGISTERS, ROW, WORDS,
 };
-use std::num::{wrapping_add_u32, wrapping_sub_u32};
 
 // Addresses. A LECOM address has two decimal figures, neither of them zero; the low two hex figures of a Love address are not 00.
 pub const IA_MOST: u32 = 31;
@@ -51,7 +50,7 @@ pub const REGISTER_LEAST: u32 = u32::MAX - REGISTER_MOST + 1;
 // Half the values of a word.
 const HALF: u32 = 0x8000_0000;
 
-// Whether x lies from lo to hi.
+// Whether x lies from lo to hi. Two numbers and no range type: lo may be above hi, and others count from the ends by themselves.
 pub fn in_span(x: u32, lo: u32, hi: u32) -> bool
     ensures { result ≡ in_span lo hi x }
 {
@@ -65,22 +64,20 @@ pub fn in_span(x: u32, lo: u32, hi: u32) -> bool
 fn is_beyond(x: u32, base: u32, most: u32) -> bool
     ensures { result ≡ is_beyond base most x }
 {
-    let shifted = wrapping_add_u32(x, base);
-    wrapping_add_u32(most, HALF) < wrapping_add_u32(shifted, HALF)
+    let shifted = x.wrapping_add(base);
+    most.wrapping_add(HALF) < shifted.wrapping_add(HALF)
 }
 
 // Whether every word of s lies from lo to hi. No early exit: so the loop runs on several words at once.
 pub fn all_in(s: &[u32], lo: u32, hi: u32) -> bool
     ensures { result ≡ all_in lo hi s.now }
 {
-    let base = wrapping_sub_u32(HALF, lo);
-    let most = wrapping_add_u32(wrapping_sub_u32(hi, lo), HALF);
+    let base = HALF.wrapping_sub(lo);
+    let most = hi.wrapping_sub(lo).wrapping_add(HALF);
     let mut bad = false;
-    let mut i = 0;
-    while i < s.len() {
-        let here = is_beyond(s[i], base, most);
+    for x in s {
+        let here = is_beyond(*x, base, most);
         bad = bad | here;
-        i += 1;
     }
     !bad
 }
@@ -136,18 +133,16 @@ fn fit_addresses(ia: u32, lecom: u32, love: u32) -> bool
     (ia <= IA_MOST) & (lecom_fit & love_fit)
 }
 
-// Whether pairs of parameters 1110h and 1120h are in their ranges.
+// Whether pairs of parameters 1110h and 1120h are in their ranges. Slices here and below, and no arrays, as in entries.rt.
 pub fn fit_parameters(s: &[u32]) -> bool
     requires { length s.now ≤ 2 * parameter_count }
     ensures { result ≡ fit_parameters s.now }
 {
     let mut ok = true;
-    let mut i = 0;
-    while i + 1 < s.len() {
-        let cycle = in_span(s[i], CYCLE_LEAST, CYCLE_MOST);
-        let floor = in_span(s[i + 1], 0, FLOOR_MOST);
+    for pair in s.chunks_exact(PARAMETERS_EACH) {
+        let cycle = in_span(pair[0], CYCLE_LEAST, CYCLE_MOST);
+        let floor = in_span(pair[1], 0, FLOOR_MOST);
         ok = ok & (cycle & floor);
-        i += 2;
     }
     ok
 }

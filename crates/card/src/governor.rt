@@ -9,6 +9,7 @@ use crate::layout::CHANNELS;
 use crate::numbers::{CARD_UNFIT, RANGE_UNKNOWN};
 use crate::probe::{Reading, read_code};
 
+// What the governor is told. Document 01 names the form: "degrees, or the word fault and no degrees".
 #[derive(Clone, Copy)]
 pub enum Governor {
     Degrees(f32),

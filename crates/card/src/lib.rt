@@ -19,7 +19,8 @@ ghost use Rattle.card.specs.Reply.{early, done_with};
 
 use numbers::{ANSWERED, BUFFER_SHORT, CARD_UNFIT, DONE};
 
-// What an entry with an answer buffer gives: a number of document 01 and the answer's length.
+// What an entry with an answer buffer gives: a number of document 01 and the answer's length, 0 for none.
+// A pair of numbers and no Option: `nk_datalink`, `nk_lecom`, `nk_love` and `nk_lucid` hand both to C.
 #[derive(Clone, Copy)]
 pub struct Outcome {
     pub number: u8,
@@ -29,7 +30,7 @@ pub struct Outcome {
 // A dialect's answer buffer has at least this many bytes, else number 11.
 pub const ROOM_LEAST: usize = 38;
 
-// 12 for an unfit card, else the number that comes after it.
+// 12 for an unfit card, else the number that comes after it: a number, as `stop_early` gives it.
 fn unless_unfit(words: &[u32], memory: &[u8], ports: &[u8], after: u8) -> u8
     ensures { result ≡ choose (fit (card_of words.now memory.now ports.now)) after card_unfit }
 {
@@ -40,6 +41,8 @@ fn unless_unfit(words: &[u32], memory: &[u8], ports: &[u8], after: u8) -> u8
 }
 
 // The shell of every entry with an answer buffer, here of room bytes: 12 for an unfit card, then 11 below least, else 0 and the entry goes on.
+// A number and no `Result`: the entry returns it to C as it is.
+// Three tables and no struct of them: each entry borrows to write only what it changes.
 // The room is looked at first and 12 put before either number: the compiler then tests nothing twice.
 pub fn stop_early(words: &[u32], memory: &[u8], ports: &[u8], least: usize, room: usize) -> u8
     ensures { result ≡ early least (card_of words.now memory.now ports.now) room }

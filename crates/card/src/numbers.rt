@@ -1,4 +1,4 @@
-// Document 01, "Numbers returned".
+// Document 01, "Numbers returned". Numbers and no enum: every entry hands them to C as they are, and every contract equates them.
 pub const ANSWERED: u8 = 0;
 
 pub const DONE: u8 = 1;

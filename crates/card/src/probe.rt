@@ -2,8 +2,6 @@
 ghost use Rattle.std.specs.Prelude.{◌≡◌};
 ghost use Rattle.card.specs.Probe.{reading_of};
 
-use std::num::wrapping_sub_u32;
-
 pub const FAULT_CODE: u8 = 255;
 
 pub const TENTHS_PER_CODE: u32 = 5;
@@ -23,7 +21,7 @@ impl Tenths {
     }
 }
 
-// What a probe's code says.
+// What a probe's code says. No Option: document 01 names the reading, out of which a temperature is taken.
 #[derive(Clone, Copy)]
 pub enum Reading {
     Temperature(Tenths),
@@ -36,6 +34,6 @@ pub fn read_code(code: u8) -> Reading
     if code == FAULT_CODE {
         return Reading::Fault;
     }
-    let scaled = TENTHS_PER_CODE * (code as u32);
-    Reading::Temperature(Tenths(wrapping_sub_u32(scaled, TENTHS_BELOW)))
+    let scaled = TENTHS_PER_CODE * code as u32;
+    Reading::Temperature(Tenths(scaled.wrapping_sub(TENTHS_BELOW)))
 }

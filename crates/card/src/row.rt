@@ -6,7 +6,6 @@ ghost use Rattle.card.specs.Row.{count_at, with_count, no_parts};
 
 use crate::change::two_bytes;
 use crate::layout::{DATALINK_PART, LECOM_PART, LOVE_PART, LUCID_PART};
-use wire::BYTE_VALUES;
 
 // How many bytes the part frame at a place of the row has.
 pub fn count(row: &[u8], at: usize) -> usize
@@ -21,8 +20,9 @@ pub fn set_count(row: &mut [u8], at: usize, n: usize)
     requires { (at + 1 < length row.old) × (n < byte_values * byte_values) }
     ensures { row.new ≡ with_count at n row.old }
 {
-    row[at] = (n % BYTE_VALUES as usize) as u8;
-    row[at + 1] = (n / BYTE_VALUES as usize) as u8;
+    let [low, high] = (n as u16).to_le_bytes();
+    row[at] = low;
+    row[at + 1] = high;
 }
 
 // Drops every part frame.

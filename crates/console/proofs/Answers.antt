@@ -1,12 +1,6 @@
 -- What an entry gave: its answer fits the buffer lent to it; the governor's degrees are a number. Assumes nothing.
-use mathlib.Core.Bool.{Bool, not}
-use mathlib.Core.List.{List}
-use Prim.Native.Nat.{ℕ, zero, suc, ◌≤◌}
-use native.Mathlib.Omega.{arith}
-use borrow.Author.Rules.{rules}
-use lib.Dec.{T}
+use Rattle.std.proofs.Common.{ℕ, zero, suc, ◌≤◌, Bool, not, T, List, length, arith, length-append, rules}
 use lib.Ieee.{odd, is_nan}
-use lib.ListN.{length, length-append}
 use Rattle.wire.specs.Buffer.{overlay}
 use Rattle.wire.proofs.Cases.{by_choice}
 use Rattle.card.specs.Layout.{Card}

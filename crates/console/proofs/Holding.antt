@@ -1,9 +1,5 @@
 -- A law of specs/Holding.antt: an answer that is held after others. Assumes nothing.
-use mathlib.Core.Path.{◌≡◌, sym, ap, ◌∙◌}
-use mathlib.Core.List.{List, [], ◌∷◌, ◌++◌, append_assoc}
-use Prim.Native.Nat.{ℕ, ◌+◌, ◌≤◌}
-use lib.ListN.{length, take, drop, length-append}
-use lib.Seq.{length-take-le, take_at}
+use Rattle.std.proofs.Common.{◌≡◌, ℕ, ◌+◌, ◌≤◌, List, [], ◌∷◌, ◌++◌, length, take, drop, sym, ap, ◌∙◌, append_assoc, length-append, length-take-le, take_at}
 use Rattle.wire.specs.Buffer.{put}
 use Rattle.lines.specs.Text.{Put}
 use Rattle.console.specs.Holding.{line_feed, Followed}

@@ -1,3 +1,4 @@
 pub mod Answers
 pub mod Holding
+pub mod Joins
 pub mod Receipts

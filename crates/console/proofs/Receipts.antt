@@ -1,10 +1,5 @@
 -- What a receiver's call gave: how many bytes it took, and its line. Assumes nothing.
-use mathlib.Core.Path.{◌≡◌}
-use mathlib.Core.List.{List, [], ◌∷◌, ◌++◌}
-use Prim.Native.Nat.{ℕ, ◌≤◌, ◌<◌}
-use native.Mathlib.Omega.{arith}
-use lib.Dec.{leb}
-use lib.ListN.{length}
+use Rattle.std.proofs.Common.{◌≡◌, ℕ, ◌<◌, ◌≤◌, leb, List, [], ◌∷◌, ◌++◌, length, arith}
 use Rattle.wire.proofs.Cases.{cases, by_choice}
 use Rattle.receiver.proofs.Calls.{takes}
 use Rattle.figures.specs.Decimal.{shortest}

@@ -1,7 +1,5 @@
-pub mod Held
 pub mod Holding
 pub mod Lent
-pub mod Parted
 pub mod Received
 pub mod Standing
 pub mod Stepped

@@ -1,5 +1,5 @@
 -- Where the console stands between two turns.
-use Rattle.std.specs.Prelude.{ℕ, ◌≤◌, ◌<◌, ◌≡◌, ◌⊎◌}
+use Rattle.std.specs.Prelude.{ℕ, ◌≤◌, ◌≡◌}
 use Rattle.lines.specs.Lent.{answer_most}
 use Rattle.console.specs.Lent.{read_most}
 
@@ -8,4 +8,4 @@ pub record Standing (at end held : ℕ) : Type 0 where
   pub before : at ≤ end
   pub inside : end ≤ read_most
   pub room : held ≤ answer_most
-  pub told : (at < end) ⊎ (held ≡ 0)
+  pub told : end ≤ at → held ≡ 0

@@ -1,41 +1,37 @@
-// The words after a call's name, where several calls have the same.
-ghost use Rattle.std.specs.Prelude.{◌≤◌, length};
+// The words after a call's name, where several calls have the same; and where their bytes go.
+ghost use Rattle.std.specs.Prelude.{◌≡◌, ◌≤◌, length, IfSome};
 ghost use Rattle.lines.specs.Lent.{line_most, room_most};
 
-use lines::line::Number;
-use lines::{BYTES_MOST, ROOM_MOST, line};
+use lines::line::Line;
+use lines::{BYTES_MOST, ROOM_MOST};
 
-// The word at at as the line's last one, a number of at most most.
-pub fn last_number(s: &[u8], at: usize, most: u32) -> Number
-    requires { at ≤ length s.now }
-    ensures { result.value ≤ most }
-{
-    let n = line::read_number(s, at, most);
-    Number {
-        right: n.right & (n.next == s.len()),
-        value: n.value,
-        next: n.next,
-    }
-}
-
-// A ROOM and BYTES: whether they can be read, the room, and how many bytes, which stand at the front of a lent buffer.
+// The words after a call's name. No line is longer than the longest, so that the bytes it names fit a buffer.
 #[derive(Clone, Copy)]
-pub struct Arguments {
-    pub right: bool,
-    pub room: usize,
-    pub count: usize,
+pub struct Words<'a> {
+    pub line: Line<'a>,
+    ghost short: { length line.bytes.now ≤ line_most },
 }
 
-// ROOM BYTES, from at on.
-pub fn room_and_bytes(s: &[u8], at: usize, to: &mut [u8; BYTES_MOST]) -> Arguments
-    requires { (at ≤ length s.now) × (length s.now ≤ line_most) }
-    ensures { (result.room ≤ room_most) × (result.count ≤ length to.new) }
-{
-    let room = line::read_number(s, at, ROOM_MOST as u32);
-    let bytes = line::read_bytes(s, room.next, to);
-    Arguments {
-        right: room.right & (bytes.next == s.len()),
-        room: room.value as usize,
-        count: bytes.count,
+// Two buffers that are lent to each call. What they hold before it does not count.
+#[derive(Drop)]
+pub struct Buffers {
+    pub first: [u8; BYTES_MOST],
+    pub second: [u8; BYTES_MOST],
+}
+
+impl Buffers {
+    pub fn new() -> Buffers {
+        Buffers {
+            first: [0; BYTES_MOST],
+            second: [0; BYTES_MOST],
+        }
     }
+}
+
+// ROOM
+pub fn room(line: &mut Line) -> Option<usize>
+    ensures stays { line.new.bytes.now ≡ line.old.bytes.now }
+    ensures few { IfSome result (λ n. n ≤ room_most) }
+{
+    Some(line.number(ROOM_MOST as u32)? as usize)
 }

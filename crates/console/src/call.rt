@@ -1,9 +1,9 @@
 // The calls: the lines that ask for them, and the call that a line's first word names. docs/CONSOLE.md.
-use lines::line;
 use receive::Dialect;
 use tables::dialect;
 
 // The lines of the calls, as `help` writes them. A line that cannot be read is answered with those of its first word.
+// One text: `help` writes it as it is, and an array of lines would have to be put together again.
 pub const CALLS: [u8; 857] =
     *b"probe CHANNEL CODE; restart; governor CHANNEL; datalink ROOM BYTES; lecom ROOM BYTES; love ROOM BYTES; lucid ROOM BYTES; receive DIALECT ROOM BYTES; quiet DIALECT; save ROOM; load BYTES; request change IA ADDRESS BYTES; request bits IA ADDRESS MASKS / STATES; step ROOM BYTES; ask lecom ROOM ADDRESS read CODE; ask lecom ROOM ADDRESS write CODE VALUE; ask love ROOM ADDRESS status; ask love ROOM ADDRESS read PLACE; ask love ROOM ADDRESS write PLACE VALUE; ask lucid ROOM getio CHANNEL TYPE; ask lucid ROOM getiogroup MASK TYPE; ask lucid ROOM setio CHANNEL TYPE VALUE; ask lucid ROOM setiogroup MASK TYPE VALUES; ask lucid ROOM getparam CHANNEL OPTION ADDRESS; ask lucid ROOM setparam CHANNEL OPTION ADDRESS VALUE; ask lucid ROOM reset CHANNEL OPTION ADDRESS; reply lecom BYTES; reply love BYTES; reply lucid BYTES; poke TABLE PLACE VALUE; peek TABLE; help";
 
@@ -51,12 +51,9 @@ pub enum TableCall {
     Peek,
 }
 
-// What a line asks: a call, by what it touches; or none, where it asks nothing, is too long to be read or has an unknown name.
+// A call, by what it touches. An enum of its own: none of its cases is one of an Option or a Result.
 #[derive(Clone, Copy)]
 pub enum Call {
-    Nothing,
-    TooLong,
-    Unknown,
     Card(CardCall),
     Receiver(ReceiverCall),
     Image(ImageCall),
@@ -66,84 +63,23 @@ pub enum Call {
     Help,
 }
 
-// The calls on the tables, and `help`.
-fn table_call(name: &[u8]) -> Call {
-    if line::is_word(name, b"poke") {
-        return Call::Tables(TableCall::Poke);
+// The call of a name. Of a frame in a dialect it is the dialect's.
+pub fn call_of(name: &[u8]) -> Option<Call> {
+    match name {
+        b"probe" => Some(Call::Card(CardCall::Probe)),
+        b"restart" => Some(Call::Card(CardCall::Restart)),
+        b"governor" => Some(Call::Card(CardCall::Governor)),
+        b"receive" => Some(Call::Receiver(ReceiverCall::Receive)),
+        b"quiet" => Some(Call::Receiver(ReceiverCall::Quiet)),
+        b"save" => Some(Call::Image(ImageCall::Save)),
+        b"load" => Some(Call::Image(ImageCall::Load)),
+        b"request" => Some(Call::Exchange(ExchangeCall::Request)),
+        b"step" => Some(Call::Exchange(ExchangeCall::Step)),
+        b"ask" => Some(Call::Master(MasterCall::Ask)),
+        b"reply" => Some(Call::Master(MasterCall::Reply)),
+        b"poke" => Some(Call::Tables(TableCall::Poke)),
+        b"peek" => Some(Call::Tables(TableCall::Peek)),
+        b"help" => Some(Call::Help),
+        _ => Some(Call::Card(CardCall::Frame(dialect::dialect_of(name)?))),
     }
-    if line::is_word(name, b"peek") {
-        return Call::Tables(TableCall::Peek);
-    }
-    if line::is_word(name, b"help") {
-        return Call::Help;
-    }
-    Call::Unknown
-}
-
-// The calls of the other masters.
-fn master_call(name: &[u8]) -> Call {
-    if line::is_word(name, b"ask") {
-        return Call::Master(MasterCall::Ask);
-    }
-    if line::is_word(name, b"reply") {
-        return Call::Master(MasterCall::Reply);
-    }
-    table_call(name)
-}
-
-// The calls of the line master.
-fn exchange_call(name: &[u8]) -> Call {
-    if line::is_word(name, b"request") {
-        return Call::Exchange(ExchangeCall::Request);
-    }
-    if line::is_word(name, b"step") {
-        return Call::Exchange(ExchangeCall::Step);
-    }
-    master_call(name)
-}
-
-// The calls of the image's entries.
-fn image_call(name: &[u8]) -> Call {
-    if line::is_word(name, b"save") {
-        return Call::Image(ImageCall::Save);
-    }
-    if line::is_word(name, b"load") {
-        return Call::Image(ImageCall::Load);
-    }
-    exchange_call(name)
-}
-
-// The calls of the receivers' entries.
-fn receiver_call(name: &[u8]) -> Call {
-    if line::is_word(name, b"receive") {
-        return Call::Receiver(ReceiverCall::Receive);
-    }
-    if line::is_word(name, b"quiet") {
-        return Call::Receiver(ReceiverCall::Quiet);
-    }
-    image_call(name)
-}
-
-// A frame in a dialect: the dialect's name is the call's.
-fn frame_call(name: &[u8]) -> Call {
-    let spoken = dialect::read_dialect(name, 0);
-    if spoken.right {
-        let dialect = spoken.dialect;
-        return Call::Card(CardCall::Frame(dialect));
-    }
-    receiver_call(name)
-}
-
-// The call of a name: those of the card here, the others group by group.
-pub fn call_of(name: &[u8]) -> Call {
-    if line::is_word(name, b"probe") {
-        return Call::Card(CardCall::Probe);
-    }
-    if line::is_word(name, b"restart") {
-        return Call::Card(CardCall::Restart);
-    }
-    if line::is_word(name, b"governor") {
-        return Call::Card(CardCall::Governor);
-    }
-    frame_call(name)
 }

@@ -1,71 +1,43 @@
 // The calls of the image's entries, as those of the card.
-ghost use Rattle.std.specs.Prelude.{◌≤◌, length};
-ghost use Rattle.lines.specs.Lent.{line_most, answer_most, room_most};
-
-use crate::arguments;
+use crate::arguments::{Buffers, Words};
 use crate::call::ImageCall;
-use card::layout::{MEMORY, ROW, WORDS};
-use lines::{ANSWER_MOST, BYTES_MOST, ROOM_MOST, UNREAD, line, text};
+use lines::line::Line;
+use lines::{Answer, ROOM_MOST};
+use tables::Tables;
 
-// save ROOM: the image goes to g.
-fn save(
-    words: &[u32; WORDS],
-    memory: &[u8; MEMORY],
-    ports: &[u8; ROW],
-    s: &[u8],
-    g: &mut [u8],
-    out: &mut [u8; ANSWER_MOST],
-) -> usize
-    requires { room_most ≤ length g.old }
-    ensures { result ≤ answer_most }
-{
-    let number = arguments::last_number(s, 0, ROOM_MOST as u32);
-    if !number.right {
-        return UNREAD;
-    }
-    let room = number.value as usize;
-    let given = image::write_image(words, memory, ports, &mut g[..room]);
-    text::tell(out, given.number, &g[..room], given.len)
+// save ROOM
+fn save(tables: &Tables, mut line: Line, buffers: &mut Buffers, answer: &mut Answer) -> Option<()> {
+    let room = line.last_number(ROOM_MOST as u32)? as usize;
+    let out = &mut buffers.second[..][..room];
+    let given = image::write_image(&tables.words, &tables.memory, &tables.row, out);
+    answer.tell(given.number, &out[..given.len]);
+    Some(())
 }
 
-// load BYTES: they go to f.
+// load BYTES
 fn load(
-    words: &mut [u32; WORDS],
-    memory: &[u8; MEMORY],
-    ports: &[u8; ROW],
-    s: &[u8],
-    f: &mut [u8; BYTES_MOST],
-    out: &mut [u8; ANSWER_MOST],
-) -> usize
-    requires { length s.now ≤ line_most }
-    ensures { result ≤ answer_most }
-{
-    let bytes = line::read_bytes(s, 0, f);
-    if bytes.next < s.len() {
-        return UNREAD;
-    }
-    let n = bytes.count;
-    let image: &[u8] = f;
-    let number = image::read_image(words, memory, ports, &image[..n]);
-    text::tell_number(out, number)
+    tables: &mut Tables,
+    words: Words,
+    buffers: &mut Buffers,
+    answer: &mut Answer,
+) -> Option<()> {
+    let mut line = words.line;
+    let image = line.last_bytes(&mut buffers.first)?;
+    let number = image::read_image(&mut tables.words, &tables.memory, &tables.row, image);
+    answer.tell_number(number);
+    Some(())
 }
 
-// A call of an entry of the image, with the words s after its name, and two buffers whose bytes do not count.
+// A call of an entry of the image, with the words after its name.
 pub fn run(
     call: ImageCall,
-    words: &mut [u32; WORDS],
-    memory: &[u8; MEMORY],
-    ports: &[u8; ROW],
-    s: &[u8],
-    f: &mut [u8; BYTES_MOST],
-    g: &mut [u8; BYTES_MOST],
-    out: &mut [u8; ANSWER_MOST],
-) -> usize
-    requires { length s.now ≤ line_most }
-    ensures { result ≤ answer_most }
-{
+    tables: &mut Tables,
+    words: Words,
+    buffers: &mut Buffers,
+    answer: &mut Answer,
+) -> Option<()> {
     match call {
-        ImageCall::Save => save(words, memory, ports, s, g, out),
-        ImageCall::Load => load(words, memory, ports, s, f, out),
+        ImageCall::Save => save(tables, words.line, buffers, answer),
+        ImageCall::Load => load(tables, words, buffers, answer),
     }
 }

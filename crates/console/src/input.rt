@@ -1,6 +1,7 @@
 // Standard input as lines.
-ghost use Rattle.std.specs.Prelude.{◌≤◌};
-ghost use Rattle.console.specs.Lent.{read_most};
+ghost use Rattle.std.specs.Prelude.{◌≡◌, ◌↔◌, ◌<◌, ◌≤◌, length, IsTrue, IfSome};
+ghost use Rattle.lines.specs.Lent.{line_most};
+ghost use Rattle.console.specs.Lent.{read_most, come};
 
 use lines::{LINE_FEED, LINE_MOST, line};
 use std::io::{Read, Stdin};
@@ -8,98 +9,95 @@ use std::io::{Read, Stdin};
 // How many bytes are read at once.
 pub const READ_MOST: usize = 65_536;
 
-// Where reading stands: the bytes of the buffer from at to end are still to be taken; n bytes of the line have come, and whether
-// it is whole; whether the input is over, and whether that is because it could not be read.
-#[derive(Clone, Copy)]
+// What reading on came to: a part of a line; a whole line; the last line, with which the input is over; or the input could not be read.
+#[derive(Clone, Copy, PartialEq, Eq)]
+pub enum Came {
+    Part,
+    Line,
+    Last,
+    Failed,
+}
+
+// Where reading stands: the bytes of the buffer from at to end are still to be taken; how long the line is that has come, or None where
+// it is too long; and what reading on came to.
+#[derive(Drop)]
 pub struct Input {
+    buffer: [u8; READ_MOST],
     pub at: usize,
     pub end: usize,
-    pub n: usize,
-    pub whole: bool,
-    pub over: bool,
-    pub failed: bool,
+    text: [u8; LINE_MOST],
+    n: Option<usize>,
+    pub came: Came,
+    ghost before: { at ≤ end },
+    ghost inside: { end ≤ read_most },
+    ghost short: { come n ≤ line_most },
 }
 
-// Nothing read yet.
-pub fn none() -> Input
-    ensures { (result.at ≤ result.end) × (result.end ≤ read_most) }
+// Bytes join a line of which n have come. A line that is too long stays so.
+fn join(text: &mut [u8; LINE_MOST], n: Option<usize>, bytes: &[u8]) -> Option<usize>
+    ensures { come result ≤ line_most }
 {
-    reached(0, 0, 0, false)
+    line::join(text, n?, bytes)
 }
 
-// Where reading stands when the buffer is taken up to at, and n bytes of the line have come.
-fn reached(at: usize, end: usize, n: usize, whole: bool) -> Input
-    requires { (at ≤ end) × (end ≤ read_most) }
-    ensures { (result.at ≤ result.end) × (result.end ≤ read_most) }
-{
-    Input {
-        at,
-        end,
-        n,
-        whole,
-        over: false,
-        failed: false,
-    }
-}
-
-// Takes what is left in the buffer to the line, up to a line feed.
-fn take(
-    buffer: &[u8; READ_MOST],
-    text: &mut [u8; LINE_MOST],
-    at: usize,
-    end: usize,
-    n: usize,
-) -> Input
-    requires { (at ≤ end) × (end ≤ read_most) }
-    ensures { (result.at ≤ result.end) × (result.end ≤ read_most) }
-{
-    let read: &[u8] = buffer;
-    let stop = line::scan(&read[..end], at, LINE_FEED, true);
-    let joined = line::join(text, n, &read[at..stop]);
-    if stop < end {
-        return reached(stop + 1, end, joined, true);
-    }
-    reached(stop, end, joined, false)
-}
-
-// How much of a line has come: none of the next one where the last is whole.
-fn so_far(n: usize, whole: bool) -> usize {
-    if whole {
-        return 0;
-    }
-    n
-}
-
-// Takes what is left in the buffer, or fills it again. At the end of the input a last line without a line feed counts too.
-pub fn next(
-    mut stdin: Stdin,
-    buffer: &mut [u8; READ_MOST],
-    text: &mut [u8; LINE_MOST],
-    input: Input,
-) -> Input
-    requires { (input.at ≤ input.end) × (input.end ≤ read_most) }
-    ensures { (result.at ≤ result.end) × (result.end ≤ read_most) }
-{
-    let n = so_far(input.n, input.whole);
-    if input.at < input.end {
-        return take(buffer, text, input.at, input.end, n);
-    }
-    match stdin.read(buffer) {
-        Ok(end) => Input {
-            at: 0,
-            end,
-            n,
-            whole: end == 0,
-            over: end == 0,
-            failed: false,
-        },
-        Err(_) => Input {
+impl Input {
+    // Nothing read yet.
+    pub fn new() -> Input
+        ensures { result.end ≡ 0 }
+    {
+        Input {
+            buffer: [0; READ_MOST],
             at: 0,
             end: 0,
-            n,
-            whole: false,
-            over: true,
-            failed: true,
-        },
+            text: [0; LINE_MOST],
+            n: Some(0),
+            came: Came::Part,
+        }
+    }
+
+    // The line that has come, unless it is too long.
+    pub fn line(&self) -> Option<&[u8]>
+        ensures { IfSome result (λ line. length line.now ≤ line_most) }
+    {
+        Some(&self.text[..self.n?])
+    }
+
+    // Whether bytes are still to be taken.
+    pub fn is_left(&self) -> bool
+        ensures { IsTrue result ↔ (self.now.at < self.now.end) }
+    {
+        self.at < self.end
+    }
+
+    // Takes what is left in the buffer to the line, up to a line feed.
+    fn take(&mut self) {
+        let left = &self.buffer[..self.end];
+        let stop = line::scan(left, self.at, |b| b == LINE_FEED);
+        self.n = join(&mut self.text, self.n, &left[self.at..stop]);
+        if stop < self.end {
+            self.at = stop + 1;
+            self.came = Came::Line;
+        } else {
+            self.at = stop;
+            self.came = Came::Part;
+        }
+    }
+
+    // Takes what is left in the buffer, or fills it again. At the end of the input a last line without a line feed counts too.
+    pub fn next(&mut self, mut stdin: Stdin) {
+        if self.came == Came::Line {
+            self.n = Some(0);
+        }
+        if self.at < self.end {
+            self.take();
+            return;
+        }
+        self.at = 0;
+        self.end = 0;
+        self.came = Came::Failed;
+        if let Ok(end) = stdin.read(&mut self.buffer) {
+            self.end = end;
+            self.came = if end == 0 { Came::Last } else { Came::Part };
+        }
     }
 }

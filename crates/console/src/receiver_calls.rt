@@ -1,114 +1,84 @@
 // The calls of the receivers' entries, as those of the card.
-ghost use Rattle.std.specs.Prelude.{◌≤◌, length, take};
-ghost use Rattle.lines.specs.Lent.{line_most, bytes_most, answer_most, room_most};
+ghost use Rattle.std.specs.Prelude.{◌≤◌, length};
+ghost use Rattle.lines.specs.Lent.{bytes_most, room_most};
 ghost use Rattle.lines.specs.Text.{Put};
 ghost use Rattle.console.specs.Received.{received, received_most};
 
 use crate::arguments;
+use crate::arguments::{Buffers, Words};
 use crate::call::ReceiverCall;
-use card::layout::{MEMORY, ROW, WORDS};
 use card::numbers::DONE;
-use lines::{ANSWER_MOST, BYTES_MOST, UNREAD, text};
+use lines::Answer;
+use lines::line::Line;
 use receive::{Dialect, Received};
-use tables::dialect;
+use tables::{Tables, dialect};
 
 // The bytes reach the dialect's receiver, with the frame at the front of frame.
-fn hand(
-    dialect: Dialect,
-    words: &[u32; WORDS],
-    memory: &[u8; MEMORY],
-    ports: &mut [u8; ROW],
-    bytes: &[u8],
-    frame: &mut [u8],
-) -> Received
+fn hand(dialect: Dialect, tables: &mut Tables, bytes: &[u8], frame: &mut [u8]) -> Received
     ensures { (result.taken ≤ length bytes.now) × (result.len ≤ length frame.new) }
 {
-    receive::receive(dialect, words, memory, ports, bytes, frame)
+    receive::receive(
+        dialect,
+        &tables.words,
+        &tables.memory,
+        &mut tables.row,
+        bytes,
+        frame,
+    )
 }
 
-// The line of a receiver's number; where it is done, how many bytes it took, and the first len bytes of frame.
-fn tell_received(
-    out: &mut [u8; ANSWER_MOST],
-    number: u8,
-    taken: usize,
-    frame: &[u8],
-    len: usize,
-) -> usize
-    requires { (taken ≤ bytes_most) × ((len ≤ length frame.now) × (length frame.now ≤ room_most)) }
-    ensures { Put received_most 0 (received number taken (take len frame.now)) out.old result out.new }
+// The line of a receiver's number; where it is done, how many bytes it took, and the frame.
+fn tell_received(answer: &mut Answer, number: u8, taken: usize, frame: &[u8])
+    requires { (taken ≤ bytes_most) × (length frame.now ≤ room_most) }
+    ensures { Put received_most 0 (received number taken frame.now) answer.old.out answer.new.len answer.new.out }
 {
     if DONE < number {
-        return text::tell_number(out, number);
+        answer.tell_number(number);
+        return;
     }
-    let at = text::put_number(out, 0, number as u32);
-    let space = text::put_words(out, at, b" ");
-    let end = text::put_number(out, space, taken as u32);
-    text::put_bytes(out, end, &frame[..len])
+    answer.clear();
+    answer.put_number(number as u32);
+    answer.put_words(b" ");
+    answer.put_number(taken as u32);
+    answer.put_bytes(frame);
 }
 
-// receive DIALECT ROOM BYTES: the bytes go to f, the frame to g.
+// receive DIALECT ROOM BYTES
 fn receive_bytes(
-    words: &[u32; WORDS],
-    memory: &[u8; MEMORY],
-    ports: &mut [u8; ROW],
-    s: &[u8],
-    f: &mut [u8; BYTES_MOST],
-    g: &mut [u8],
-    out: &mut [u8; ANSWER_MOST],
-) -> usize
-    requires { (length s.now ≤ line_most) × (room_most ≤ length g.old) }
-    ensures { result ≤ answer_most }
-{
-    let spoken = dialect::read_dialect(s, 0);
-    let a = arguments::room_and_bytes(s, spoken.next, f);
-    let right = spoken.right & a.right;
-    if !right {
-        return UNREAD;
-    }
-    let dialect = spoken.dialect;
-    let n = a.count;
-    let room = a.room;
-    let bytes: &[u8] = f;
-    let given = hand(dialect, words, memory, ports, &bytes[..n], &mut g[..room]);
-    tell_received(out, given.number, given.taken, &g[..room], given.len)
+    tables: &mut Tables,
+    words: Words,
+    buffers: &mut Buffers,
+    answer: &mut Answer,
+) -> Option<()> {
+    let mut line = words.line;
+    let dialect = dialect::read_dialect(&mut line)?;
+    let room = arguments::room(&mut line)?;
+    let bytes = line.last_bytes(&mut buffers.first)?;
+    let frame = &mut buffers.second[..][..room];
+    let given = hand(dialect, tables, bytes, frame);
+    tell_received(answer, given.number, given.taken, &frame[..given.len]);
+    Some(())
 }
 
 // quiet DIALECT
-fn quiet(
-    words: &[u32; WORDS],
-    memory: &[u8; MEMORY],
-    ports: &mut [u8; ROW],
-    s: &[u8],
-    out: &mut [u8; ANSWER_MOST],
-) -> usize
-    ensures { result ≤ answer_most }
-{
-    let spoken = dialect::read_dialect(s, 0);
-    let right = spoken.right & (spoken.next == s.len());
-    if !right {
-        return UNREAD;
-    }
-    let dialect = spoken.dialect;
-    let number = receive::quiet(dialect, words, memory, ports);
-    text::tell_number(out, number)
+fn quiet(tables: &mut Tables, mut line: Line, answer: &mut Answer) -> Option<()> {
+    let dialect = dialect::read_dialect(&mut line)?;
+    line.end()?;
+    let number = receive::quiet(dialect, &tables.words, &tables.memory, &mut tables.row);
+    answer.tell_number(number);
+    Some(())
 }
 
-// A call of an entry of the receivers, with the words s after its name, and two buffers whose bytes do not count.
+// A call of an entry of the receivers, with the words after its name.
 pub fn run(
     call: ReceiverCall,
-    words: &[u32; WORDS],
-    memory: &[u8; MEMORY],
-    ports: &mut [u8; ROW],
-    s: &[u8],
-    f: &mut [u8; BYTES_MOST],
-    g: &mut [u8; BYTES_MOST],
-    out: &mut [u8; ANSWER_MOST],
-) -> usize
-    requires { length s.now ≤ line_most }
-    ensures { result ≤ answer_most }
-{
+    tables: &mut Tables,
+    words: Words,
+    buffers: &mut Buffers,
+    answer: &mut Answer,
+) -> Option<()> {
     match call {
-        ReceiverCall::Receive => receive_bytes(words, memory, ports, s, f, g, out),
-        ReceiverCall::Quiet => quiet(words, memory, ports, s, out),
+        ReceiverCall::Receive => receive_bytes(tables, words, buffers, answer),
+        ReceiverCall::Quiet => quiet(tables, words.line, answer),
     }
 }

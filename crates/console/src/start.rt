@@ -1,13 +1,15 @@
 // The card that the console starts with.
 ghost use Rattle.std.specs.Prelude.{◌≡◌, replicate};
-ghost use Rattle.card.specs.Layout.{word_count, memory_size};
-ghost use Rattle.card.specs.Start.{start_words, start_memory};
+ghost use Rattle.card.specs.Layout.{card_of, word_count, memory_size};
+ghost use Rattle.card.specs.Start.{start_words, start_memory, start_card};
 
 use card::fitness::{CYCLE_DEFAULT, DEMAND_MOST};
 use card::layout::{
-    DEMANDS, IA, LECOM_ADDRESS, LOVE_ADDRESS, PARAMETERS, PARAMETERS_EACH, SAVED_PARAMETERS,
+    DEMANDS, IA, LECOM_ADDRESS, LOVE_ADDRESS, MEMORY, PARAMETERS, PARAMETERS_EACH, ROW,
+    SAVED_PARAMETERS, WORDS,
 };
 use card::probe::FAULT_CODE;
+use tables::Tables;
 
 // The addresses.
 const START_IA: u32 = 3;
@@ -35,8 +37,8 @@ const THIRD_SAVED: usize = SECOND_SAVED + PARAMETERS_EACH;
 
 const FOURTH_SAVED: usize = THIRD_SAVED + PARAMETERS_EACH;
 
-// The words, from zeros.
-pub fn start_words(words: &mut [u32])
+// The words, from zeros. Store by store, as the memory below: with `fill` and a `for` over the channels what it ensures found no proof.
+fn start_words(words: &mut [u32])
     requires { words.old ≡ replicate word_count 0 }
     ensures { words.new ≡ start_words }
 {
@@ -58,7 +60,7 @@ pub fn start_words(words: &mut [u32])
 }
 
 // Memory, from zeros: no probe read yet.
-pub fn start_memory(memory: &mut [u8])
+fn start_memory(memory: &mut [u8])
     requires { memory.old ≡ replicate memory_size 0 }
     ensures { memory.new ≡ start_memory }
 {
@@ -66,4 +68,18 @@ pub fn start_memory(memory: &mut [u8])
     memory[1] = FAULT_CODE;
     memory[2] = FAULT_CODE;
     memory[3] = FAULT_CODE;
+}
+
+// The tables.
+pub fn start_tables() -> Tables
+    ensures { card_of result.words result.memory result.row ≡ start_card }
+{
+    let mut tables = Tables {
+        words: [0; WORDS],
+        memory: [0; MEMORY],
+        row: [0; ROW],
+    };
+    start_words(&mut tables.words);
+    start_memory(&mut tables.memory);
+    tables
 }

@@ -1,24 +1,13 @@
 // The calls on the tables, as those of the card.
-ghost use Rattle.std.specs.Prelude.{◌≤◌};
-ghost use Rattle.lines.specs.Lent.{answer_most};
-
 use crate::call::TableCall;
-use card::layout::{MEMORY, ROW, WORDS};
-use lines::ANSWER_MOST;
+use lines::Answer;
+use lines::line::Line;
+use tables::Tables;
 
-// A call on the tables, with the words s after its name.
-pub fn run(
-    call: TableCall,
-    words: &mut [u32; WORDS],
-    memory: &mut [u8; MEMORY],
-    ports: &mut [u8; ROW],
-    s: &[u8],
-    out: &mut [u8; ANSWER_MOST],
-) -> usize
-    ensures { result ≤ answer_most }
-{
+// A call on the tables, with the words after its name.
+pub fn run(call: TableCall, tables: &mut Tables, line: Line, answer: &mut Answer) -> Option<()> {
     match call {
-        TableCall::Poke => tables::poke(words, memory, ports, s, out),
-        TableCall::Peek => tables::peek(words, memory, ports, s, out),
+        TableCall::Poke => tables.poke(line, answer),
+        TableCall::Peek => tables.peek(line, answer),
     }
 }

@@ -1,5 +1,5 @@
 -- A fit card stays fit, whatever Datalink frame it gets. Assumes nothing.
-use Rattle.std.proofs.Common.{◌≡◌, ℕ, zero, suc, ◌+◌, ◌-◌, ◌<◌, ◌≤◌, true, eqb, List, ◌∷◌, length, get_or, refl, ◌∙◌, arith, length-set}
+use Rattle.std.proofs.Common.{◌≡◌, ℕ, zero, suc, ◌+◌, ◌-◌, ◌<◌, ◌≤◌, true, eqb, List, ◌∷◌, length, get_or, refl, ◌∙◌, arith, length-set, Result, Ok, Err}
 use lib.ListN.{get_or-append}
 use Rattle.wire.specs.Buffer.{overlay}
 use Rattle.wire.proofs.Tests.{or_true_right}
@@ -15,7 +15,8 @@ use Rattle.datalink.specs.Form.{frame_num_at, frame_data_at}
 use Rattle.datalink.specs.Frame.{num_in, address_in, asked}
 use Rattle.datalink.specs.Answer.{ia_of, interrogated, body_of, pended, echoed, changed, applied_to, applied, acknowledged, obeyed, datalink_reply}
 use Rattle.datalink.specs.declared.frame.Order.{Order}
-use Rattle.datalink.specs.declared.frame.Order.TheVariants.{Silent, Interrogate, Change, Acknowledge}
+use Rattle.datalink.specs.declared.frame.Order.TheVariants.{Interrogate, Change, Acknowledge}
+use Rattle.datalink.specs.declared.frame.Silent.{Silent}
 use Rattle.datalink.specs.Stages.{Sound}
 use Rattle.datalink.proofs.Frames.{asked_sound}
 
@@ -42,18 +43,18 @@ module _ (f : List ℕ) (kind num : ℕ) (p : List ℕ) (long : frame_data_at + 
   pended_fit same e =
       rw (pended_at 0 (omega arith), pended_at 1 (omega arith), pended_at 2 (omega arith), ← same, e) (or_true_right (eqb kind no_change))
 
-obeyed_fit : (card : Card) (f : List ℕ) (o : Order) → Sound f o → fit card ≡ true → IsFit (obeyed card f o)
+obeyed_fit : (card : Card) (f : List ℕ) (o : Result Order Silent) → Sound f o → fit card ≡ true → IsFit (obeyed card f o)
 unfolding obeyed interrogated echoed pended acknowledged applied applied_to
-obeyed_fit card f (Silent number) s e = e
-obeyed_fit card f (Interrogate at n) s e = e
-obeyed_fit card f (Change kind num) s e =
+obeyed_fit card f (Err refusal) s e = e
+obeyed_fit card f (Ok (Interrogate at n)) s e = e
+obeyed_fit card f (Ok (Change kind num)) s e =
     let t = fit_facts card e in
     let l : frame_data_at + num ≤ length f = omega (arith, s.0) in
     let body = length_body f kind num card.ports l in
     fit_from _ t.words_length t.memory_length
     (length_overlay (kind ∷ body_of f num) card.ports (omega (arith, body, s.1.0, t.ports_length)) ∙ t.ports_length)
     t.words_fit (pended_fit f kind num card.ports l s.1.1.0 s.1.1.1)
-obeyed_fit card f Acknowledge s e =
+obeyed_fit card f (Ok Acknowledge) s e =
     let t = fit_facts card e in
     by_choice IsFit (eqb (get_or card.ports kind_at 0) no_change) _ _ (λ _. e)
     (λ _. fit_from (applied card) t.words_length (length_changed _ _ _ _ card.memory ∙ t.memory_length)

@@ -1,5 +1,5 @@
 -- What is known of a frame that was judged, and of a change that may be echoed. Assumes nothing.
-use Rattle.std.proofs.Common.{◌≡◌, ℕ, ◌+◌, ◌/◌, ◌<◌, ◌≤◌, Bool, true, false, not, eqb, leb, List, length, get_or, refl, ap, ◌∙◌, arith, ne_eqb, eqb-true, leb-true}
+use Rattle.std.proofs.Common.{◌≡◌, ℕ, ◌+◌, ◌/◌, ◌<◌, ◌≤◌, Bool, true, false, not, eqb, leb, List, length, get_or, refl, ap, ◌∙◌, arith, ne_eqb, eqb-true, leb-true, Result, Ok}
 use Prim.{tt}
 use borrow.Author.Tests.{eqb-false}
 use Rattle.wire.specs.Choose.{choose}
@@ -9,10 +9,11 @@ use Rattle.card.specs.Numbers.{foreign_address, frame_form, check_character, com
 use Rattle.card.specs.Layout.{kind_at, num_at, low_address_at, high_address_at, data_most}
 use Rattle.card.specs.Change.{no_change, change, change_bits, named, num_right, in_memory, names_read_only, two_bytes, echoable, fit_pending, memory_start, memory_end}
 use Rattle.datalink.specs.Form.{bare_size, acknowledge_bits, change_command_bits, change_bits_bits}
-use Rattle.datalink.specs.Frame.{command_in, num_in, address_in, is_acknowledge, kind_of, kind_in, named_in, carried, form_right, range_right, change_allowed, change_right, ordered, silently, asked}
+use Rattle.datalink.specs.Frame.{command_in, num_in, address_in, is_acknowledge, kind_of, kind_in, named_in, carried, form_right, range_right, change_allowed, change_right, ordered, refused, silently, asked}
 use Rattle.datalink.specs.Stages.{order_in, order_at, Sound}
 use Rattle.datalink.specs.declared.frame.Order.{Order}
-use Rattle.datalink.specs.declared.frame.Order.TheVariants.{Silent, Acknowledge}
+use Rattle.datalink.specs.declared.frame.Order.TheVariants.{Acknowledge}
+use Rattle.datalink.specs.declared.frame.Silent.{Silent}
 
 -- The form of a frame that is no Acknowledge
 
@@ -31,7 +32,7 @@ form_facts f a e =
 
 -- Range, read-only and order of an Acknowledge, and of any other frame
 
-pub order_acknowledge : (f : List ℕ) → command_in f ≡ acknowledge_bits → Acknowledge ≡ order_in f
+pub order_acknowledge : (f : List ℕ) → command_in f ≡ acknowledge_bits → Ok Acknowledge ≡ order_in f
 unfolding order_in range_right change_right change_allowed ordered is_acknowledge kind_in kind_of choose
 order_acknowledge f e = rw e
 
@@ -100,19 +101,19 @@ unfolding carried choose
 carried_some kind num e = rw e
 
 module _ (f : List ℕ) where
-  or_silent : (t : Bool) (o : Order) (number : ℕ) → (t ≡ true → Sound f o) → Sound f (silently t number o)
-  or_silent t o number p = by_choice (Sound f) t o (Silent number) p (λ _. tt)
+  or_silent : (t : Bool) (o : Result Order Silent) (number : ℕ) → (t ≡ true → Sound f o) → Sound f (silently t number o)
+  or_silent t o number p = by_choice (Sound f) t o (refused number) p (λ _. tt)
 
-  sound_order : form_right f ≡ true → range_right f ≡ true → change_right f ≡ true → Sound f (ordered f)
+  sound_order : form_right f ≡ true → range_right f ≡ true → change_right f ≡ true → Sound f (Ok (ordered f))
   unfolding ordered range_right change_right change_allowed is_acknowledge named_in kind_in echoable
   sound_order form range allowed =
-      by_choice (Sound f) (eqb (command_in f) acknowledge_bits) _ _ (λ _. tt)
+      by_choice (λ (o : Order). Sound f (Ok o)) (eqb (command_in f) acknowledge_bits) _ _ (λ _. tt)
       (λ a.
       let facts = form_facts f (eqb-false (command_in f) acknowledge_bits a) form in
       let inside : in_memory (address_in f) (named (kind_in f) (num_in f)) ≡ true = rw a at range in
       let bounds = memory_facts (address_in f) (named (kind_in f) (num_in f)) inside in
       let most = num_most (kind_in f) (num_in f) facts.1 in
-      by_choice (Sound f) (eqb (kind_in f) no_change) _ _
+      by_choice (λ (o : Order). Sound f (Ok o)) (eqb (kind_in f) no_change) _ _
       (λ k.
       let none : kind_in f ≡ no_change = eqb-true (kind_in f) no_change k in
       let same : named (kind_in f) (num_in f) ≡ num_in f = ap (λ (x : ℕ). named x (num_in f)) none ∙ named_none (num_in f) in

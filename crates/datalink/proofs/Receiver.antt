@@ -1,6 +1,5 @@
 -- Datalink's receiver: which part frames it can hold, and that it hands over every frame of its form. Assumes nothing.
-use Rattle.std.proofs.Common.{◌≡◌, ℕ, ◌+◌, ◌<◌, ◌≤◌, Bool, true, false, not, ◌&&◌, ◌||◌, eqb, ltb, leb, List, [], ◌∷◌, ◌++◌, length, get_or, sym, refl, ap, ◌∙◌, subst, arith, length-append, ltb-true, le-ltb, lt-ltb, eq-eqb, ne_eqb, eqb-true, le-leb, leb-false, leb-true}
-use mathlib.Core.Logic.◌⊎◌.{inl}
+use Rattle.std.proofs.Common.{◌≡◌, ℕ, ◌+◌, ◌<◌, ◌≤◌, Bool, true, false, not, ◌&&◌, ◌||◌, eqb, ltb, leb, List, [], ◌∷◌, ◌++◌, length, get_or, sym, refl, ap, ◌∙◌, subst, arith, length-append, ltb-true, le-ltb, lt-ltb, eq-eqb, ne_eqb, eqb-true, le-leb, leb-false, leb-true, inl}
 use Prim.{tt}
 use borrow.Author.Tests.{lt-leb}
 use lib.ListN.{get_or-append}
@@ -19,10 +18,9 @@ use Rattle.card.specs.Layout.{data_most}
 use Rattle.card.specs.Change.{no_change, num_right}
 use Rattle.card.specs.Numbers.{foreign_address, frame_form, command_unknown}
 use Rattle.datalink.specs.Form.{shortest, longest, start, second_at, frame_num_at, acknowledge_bits, acknowledge_size, bare_size}
-use Rattle.datalink.specs.Frame.{command_in, command_known, is_acknowledge, kind_of, kind_in, num_in, carried, form_right, asked}
+use Rattle.datalink.specs.Frame.{command_in, command_known, is_acknowledge, kind_of, kind_in, num_in, carried, form_right, refused, asked}
 use Rattle.datalink.specs.Stages.{command_of, size_of, second_place, goes_on, held_with_num}
 use Rattle.datalink.specs.Receiver.{once_come, starts_right, wanted, judged, step, held}
-use Rattle.datalink.specs.declared.frame.Order.TheVariants.{Silent}
 use Rattle.datalink.proofs.Frames.{num_most}
 
 chosen : (n : ℕ) (t : Bool) (a b : ℕ) → t ≡ true → n < choose t a b → n < a
@@ -205,7 +203,7 @@ whole_form f two s c r =
     (whole step p b (held_leads p h) z)
 
 -- every frame that the Datalink order does not refuse before LRC, range and read-only
-pub whole_asked : (ia : ℕ) (f : List ℕ) → (asked ia f ≡ Silent frame_form → ⊥) → (asked ia f ≡ Silent foreign_address → ⊥) → (asked ia f ≡ Silent command_unknown → ⊥)
+pub whole_asked : (ia : ℕ) (f : List ℕ) → (asked ia f ≡ refused frame_form → ⊥) → (asked ia f ≡ refused foreign_address → ⊥) → (asked ia f ≡ refused command_unknown → ⊥)
     → Whole step f
 unfolding asked
 whole_asked ia f no3 no2 no5 =

@@ -1,5 +1,5 @@
 -- What the card does with a Datalink order. Document 01, "Datalink", first half. All refusals are silent.
-use Rattle.std.specs.Prelude.{ℕ, zero, suc, ◌+◌, ◌-◌, ◌*◌, List, ◌∷◌, ◌++◌, drop, ◌==◌, bit_and, bit_or, slice_index, slice_set}
+use Rattle.std.specs.Prelude.{ℕ, zero, suc, ◌+◌, ◌-◌, ◌*◌, List, ◌∷◌, ◌++◌, drop, Result, Ok, Err, ◌==◌, bit_and, bit_or, slice_index, slice_set}
 use Rattle.wire.specs.Choose.{choose}
 use Rattle.wire.specs.Buffer.{part, overlay}
 use Rattle.card.specs.Numbers.{answered, done, nothing_pending}
@@ -10,7 +10,8 @@ use Rattle.card.specs.Reply.{Reply, silent, sent, shell, room_least}
 use Rattle.datalink.specs.Form.{framed, response_bits, frame_num_at, frame_data_at}
 use Rattle.datalink.specs.Frame.{asked}
 use Rattle.datalink.specs.declared.frame.Order.{Order}
-use Rattle.datalink.specs.declared.frame.Order.TheVariants.{Silent, Interrogate, Change, Acknowledge}
+use Rattle.datalink.specs.declared.frame.Order.TheVariants.{Interrogate, Change, Acknowledge}
+use Rattle.datalink.specs.declared.frame.Silent.{Silent}
 
 -- "Response 20h": a frame whose body is NUM, address and data
 unfoldable pub response : ℕ → List ℕ → List ℕ
@@ -63,11 +64,11 @@ unfoldable pub acknowledged : Card → Reply
 acknowledged card = choose (slice_index card.ports kind_at == no_change) (silent nothing_pending card) (silent done (applied card))
 
 -- what the card does with each order
-unfoldable pub obeyed : Card → List ℕ → Order → Reply
-obeyed card f (Silent number) = silent number card
-obeyed card f (Interrogate at n) = interrogated card f at n
-obeyed card f (Change kind num) = echoed card f kind num
-obeyed card f Acknowledge = acknowledged card
+unfoldable pub obeyed : Card → List ℕ → Result Order Silent → Reply
+obeyed card f (Err refusal) = silent refusal.0 card
+obeyed card f (Ok (Interrogate at n)) = interrogated card f at n
+obeyed card f (Ok (Change kind num)) = echoed card f kind num
+obeyed card f (Ok Acknowledge) = acknowledged card
 
 -- the Datalink entry: 12, 11, then the order
 unfoldable pub datalink_reply : Card → ℕ → List ℕ → Reply

@@ -1,5 +1,5 @@
 -- What a Datalink frame asks. Document 01, "Datalink", with source document 003.
-use Rattle.std.specs.Prelude.{ℕ, ◌+◌, ◌-◌, ◌*◌, ◌/◌, ◌%◌, Bool, not, ◌&&◌, ◌||◌, List, length, ◌==◌, slice_index}
+use Rattle.std.specs.Prelude.{ℕ, ◌+◌, ◌-◌, ◌*◌, ◌/◌, ◌%◌, Bool, not, ◌&&◌, ◌||◌, List, length, Result, Ok, Err, ◌==◌, slice_index}
 use Rattle.wire.specs.Choose.{choose}
 use Rattle.wire.specs.Buffer.{part}
 use Rattle.wire.specs.Sum.{sum_of}
@@ -7,7 +7,8 @@ use Rattle.card.specs.Numbers.{foreign_address, frame_form, check_character, com
 use Rattle.card.specs.Change.{no_change, change, change_bits, named, num_right, in_memory, names_read_only, two_bytes}
 use Rattle.datalink.specs.Form.{length_right, start, ia_values, interrogate_bits, change_command_bits, change_bits_bits, acknowledge_bits, second_at, frame_num_at, frame_low_address_at, frame_high_address_at, acknowledge_size, bare_size}
 use Rattle.datalink.specs.declared.frame.Order.{Order}
-use Rattle.datalink.specs.declared.frame.Order.TheVariants.{Silent, Interrogate, Change, Acknowledge}
+use Rattle.datalink.specs.declared.frame.Order.TheVariants.{Interrogate, Change, Acknowledge}
+use Rattle.datalink.specs.declared.frame.Silent.{Silent}
 
 -- the parts of a frame
 unfoldable pub ia_in : List ℕ → ℕ
@@ -72,12 +73,16 @@ ordered f =
     choose (is_acknowledge f) Acknowledge
     (choose (kind_in f == no_change) (Interrogate (address_in f) (num_in f)) (Change (kind_in f) (num_in f)))
 
--- a test, the number that refuses a frame where it fails, and what comes after it. "All refusals are silent."
-abbrev pub silently : Bool → ℕ → Order → Order
-silently test number rest = choose test rest (Silent number)
+-- a frame refused with a number. "All refusals are silent."
+abbrev pub refused : ℕ → Result Order Silent
+refused number = Err (record { 0 = number })
+
+-- a test, the number that refuses a frame where it fails, and what comes after it
+abbrev pub silently : Bool → ℕ → Result Order Silent → Result Order Silent
+silently test number rest = choose test rest (refused number)
 
 -- what a frame asks of the unit at an I.A.: "Order: first byte (3), I.A. (2), command (5), length and NUM (3), LRC (4), range (6), read-only (8)"
-unfoldable pub asked : ℕ → List ℕ → Order
+unfoldable pub asked : ℕ → List ℕ → Result Order Silent
 asked ia f =
     silently (length_right (length f)) frame_form
     (silently (slice_index f 0 == start) frame_form
@@ -87,4 +92,4 @@ asked ia f =
     (silently (lrc_right f) check_character
     (silently (range_right f) range_unknown
     (silently (change_right f) read_only
-    (ordered f))))))))
+    (Ok (ordered f)))))))))

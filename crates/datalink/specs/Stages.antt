@@ -1,6 +1,6 @@
 -- The order of `asked` and the receiver's step by stages, one for each function that judges, and what is known of an order.
 use Prim.{Unit}
-use Rattle.std.specs.Prelude.{◌≡◌, ℕ, ◌+◌, ◌*◌, ◌/◌, ◌≤◌, Bool, true, not, ◌&&◌, List, length, ◌==◌, nat_le, nat_lt, slice_index}
+use Rattle.std.specs.Prelude.{◌≡◌, ℕ, ◌+◌, ◌*◌, ◌/◌, ◌≤◌, Bool, true, not, ◌&&◌, List, length, Result, Ok, Err, ◌==◌, nat_le, nat_lt, slice_index}
 use Rattle.wire.specs.Choose.{choose}
 use Rattle.card.specs.Numbers.{frame_form, check_character, command_unknown, range_unknown, read_only}
 use Rattle.card.specs.Layout.{data_most}
@@ -10,35 +10,36 @@ use Rattle.receiver.specs.declared.Place.TheVariants.{Behind, Nowhere, Last}
 use Rattle.datalink.specs.Form.{bare_size, ia_values, acknowledge_bits, second_at}
 use Rattle.datalink.specs.Frame.{silently, num_in, address_in, command_in, command_known, kind_of, carried, form_right, lrc_right, range_right, change_allowed, change_right, ordered}
 use Rattle.datalink.specs.declared.frame.Order.{Order}
-use Rattle.datalink.specs.declared.frame.Order.TheVariants.{Silent, Interrogate, Change, Acknowledge}
+use Rattle.datalink.specs.declared.frame.Order.TheVariants.{Interrogate, Change, Acknowledge}
+use Rattle.datalink.specs.declared.frame.Silent.{Silent}
 
 -- a frame whose form and LRC are right
-unfoldable pub order_in : List ℕ → Order
+unfoldable pub order_in : List ℕ → Result Order Silent
 order_in f =
     silently (range_right f) range_unknown
     (silently (change_right f) read_only
-    (ordered f))
+    (Ok (ordered f)))
 
 -- the same of one with NUM and address, by its kind, NUM and address
-unfoldable pub order_at : ℕ → ℕ → ℕ → Order
+unfoldable pub order_at : ℕ → ℕ → ℕ → Result Order Silent
 order_at kind num at =
     silently (in_memory at (named kind num)) range_unknown
     (silently (change_allowed kind at (named kind num)) read_only
-    (choose (kind == no_change) (Interrogate at num) (Change kind num)))
+    (Ok (choose (kind == no_change) (Interrogate at num) (Change kind num))))
 
 -- a frame to this unit
-unfoldable pub order_here : List ℕ → Order
+unfoldable pub order_here : List ℕ → Result Order Silent
 order_here f =
     silently (command_known (command_in f)) command_unknown
     (silently (form_right f) frame_form
     (silently (lrc_right f) check_character
     (order_in f)))
 
-abbrev pub Sound : List ℕ → Order → Type 0
-Sound f (Silent number) = Unit {0}
-Sound f (Interrogate at n) = (bare_size ≤ length f) × ((memory_start ≤ at) × ((at + n ≤ memory_end) × (n ≤ data_most)))
-Sound f (Change kind num) = (length f ≡ bare_size + num) × ((num ≤ data_most) × ((num ≡ num_in f) × (echoable kind num (address_in f) (named kind num) ≡ true)))
-Sound f Acknowledge = Unit {0}
+abbrev pub Sound : List ℕ → Result Order Silent → Type 0
+Sound f (Err refusal) = Unit {0}
+Sound f (Ok (Interrogate at n)) = (bare_size ≤ length f) × ((memory_start ≤ at) × ((at + n ≤ memory_end) × (n ≤ data_most)))
+Sound f (Ok (Change kind num)) = (length f ≡ bare_size + num) × ((num ≤ data_most) × ((num ≡ num_in f) × (echoable kind num (address_in f) (named kind num) ≡ true)))
+Sound f (Ok Acknowledge) = Unit {0}
 
 -- the receiver: the command bits of a second byte, and the size of a frame with this second byte and NUM
 unfoldable pub command_of : ℕ → ℕ

@@ -11,13 +11,14 @@ ghost use Rattle.datalink.specs.Frame.{asked};
 ghost use Rattle.datalink.specs.Answer.{response, new_byte, changed, acknowledged, body_of, obeyed, ia_of};
 
 use crate::form::Datalink;
-use crate::frame::Order;
+use crate::frame::{Order, Silent};
 use crate::write::write_frame;
 use card::change::{CHANGE_BITS, MEMORY_START, NO_CHANGE};
 use card::layout::{DATA, HIGH_ADDRESS, IA, KIND, LOW_ADDRESS, NUM};
 use card::numbers::{ANSWERED, DONE, NOTHING_PENDING};
 use card::{Outcome, change};
 
+// Here and below memory, ports and out are the slices that `nk_datalink` lends, so that the room in them is a clause, and no type.
 // Writes the response whose body is head and then bytes at the front of out.
 fn respond(out: &mut [u8], ia: u32, head: &[u8], bytes: &[u8]) -> usize
     requires { (ia ≤ ia_most) × ((length head.now + length bytes.now + beside_body ≤ room_least) × (room_least ≤ length out.old)) }
@@ -27,7 +28,7 @@ fn respond(out: &mut [u8], ia: u32, head: &[u8], bytes: &[u8]) -> usize
     write_frame(out, second, head, bytes)
 }
 
-// Makes a change of its kind, with NUM, address and data as its body, the pending one.
+// Makes a change of its kind, with NUM, address and data as its body, the pending one. The kind is the row's byte, here and below.
 fn pend(ports: &mut [u8], kind: u8, body: &[u8])
     requires { 1 + length body.now ≤ length ports.old }
     ensures { ports.new ≡ overlay (kind ∷ body.now) ports.old }
@@ -52,12 +53,9 @@ fn apply(memory: &mut [u8], kind: u8, a: usize, sent: &[u8], count: usize)
     requires { (a + count ≤ length memory.old) × ((count ≤ length sent.now) × (kind ≡ change_bits → count + count ≤ length sent.now)) }
     ensures { memory.new ≡ changed kind a sent.now count memory.old }
 {
-    let mut i = 0;
-    while i < count {
+    for i in 0..count {
         let at = a + i;
-        let b = new_byte(kind, memory[at], sent, i);
-        memory[at] = b;
-        i += 1;
+        memory[at] = new_byte(kind, memory[at], sent, i);
     }
 }
 
@@ -106,13 +104,13 @@ fn echo(ports: &mut [u8], ia: u32, f: &[u8], kind: u8, num: u8, out: &mut [u8]) 
     len
 }
 
-// Carries out what the frame f asks, the order, on a fit card.
+// Carries out what the frame f asks, the order, on a fit card. One match: each case is answered in another way.
 pub fn obey(
     words: &[u32],
     memory: &mut [u8],
     ports: &mut [u8],
     f: &[u8],
-    order: Order,
+    order: Result<Order, Silent>,
     out: &mut [u8],
 ) -> Outcome
     requires { let card = card_of words.now memory.old ports.old in
@@ -123,16 +121,16 @@ pub fn obey(
 {
     let ia = words[IA];
     match order {
-        Order::Silent(number) => Outcome { number, len: 0 },
-        Order::Interrogate(at, n) => Outcome {
+        Err(Silent(number)) => Outcome { number, len: 0 },
+        Ok(Order::Interrogate(at, n)) => Outcome {
             number: ANSWERED,
             len: interrogate(memory, ia, f, at, n, out),
         },
-        Order::Change(kind, num) => Outcome {
+        Ok(Order::Change(kind, num)) => Outcome {
             number: ANSWERED,
             len: echo(ports, ia, f, kind, num, out),
         },
-        Order::Acknowledge => Outcome {
+        Ok(Order::Acknowledge) => Outcome {
             number: acknowledge(words, memory, ports),
             len: 0,
         },

@@ -1,21 +1,13 @@
 // Datalink's receiver: what becomes of a byte behind a part frame, and which part frames there are. Document 02, M-100.
-ghost use Rattle.std.specs.Prelude.{◌≡◌, ◌<◌, true, length};
-ghost use Rattle.receiver.specs.Place.{Placed, Sure};
-ghost use Rattle.datalink.specs.Form.{longest, frame_num_at};
+ghost use Rattle.std.specs.Prelude.{◌≡◌, ◌<◌, length};
+ghost use Rattle.datalink.specs.Form.{frame_num_at};
 ghost use Rattle.datalink.specs.Receiver.{step, held};
-ghost use Rattle.datalink.specs.Stages.{command_of, size_of, second_place, goes_on, held_with_num};
+ghost use Rattle.datalink.specs.Stages.{size_of, second_place, goes_on, held_with_num};
 
 use crate::form::Datalink;
-use crate::frame::{command_known, data_carried, kind_of};
+use crate::frame::{command_known, command_of, data_carried, kind_of};
 use card::layout::DATA_MOST;
-use receiver::Place;
-
-// The command bits of a second byte.
-fn command_of(second: u8) -> u8
-    ensures { result ≡ command_of second }
-{
-    second / Datalink::IA_VALUES * Datalink::IA_VALUES
-}
+use receiver::{Collect, Frames, Place};
 
 // The size of a frame with this second byte and NUM.
 fn size(second: u8, num: u8) -> usize
@@ -40,45 +32,6 @@ fn second_place(b: u8) -> Place
     Place::Behind
 }
 
-// Where the byte b behind the part frame goes.
-pub fn place(part: &[u8], b: u8) -> Place
-    requires { held part.now ≡ true }
-    ensures { Placed step longest part.now b result }
-{
-    let n = part.len();
-    if n + 1 < Datalink::SHORTEST {
-        if b == Datalink::START {
-            return Place::Behind;
-        }
-        return Place::Nowhere;
-    }
-    if n == Datalink::SECOND {
-        return second_place(b);
-    }
-    if n == Datalink::NUM {
-        if (DATA_MOST as u8) < b {
-            return Place::Nowhere;
-        }
-        return Place::Behind;
-    }
-    if size(part[Datalink::SECOND], part[Datalink::NUM]) <= n + 1 {
-        return Place::Last;
-    }
-    Place::Behind
-}
-
-// How many bytes behind the part frame are kept, whatever they are.
-pub fn sure(part: &[u8]) -> usize
-    requires { held part.now ≡ true }
-    ensures { Sure held longest part.now result }
-{
-    let n = part.len();
-    if n <= Datalink::NUM {
-        return 0;
-    }
-    size(part[Datalink::SECOND], part[Datalink::NUM]) - n - 1
-}
-
 // Whether a second byte is that of a frame with NUM.
 fn goes_on(second: u8) -> bool
     ensures { result ≡ goes_on second }
@@ -98,25 +51,62 @@ fn holds_num(part: &[u8]) -> bool
     (num <= DATA_MOST as u8) & (part.len() < size)
 }
 
-// Whether bytes are a part frame that a line leads to.
-pub fn holds(part: &[u8]) -> bool
-    ensures { result ≡ held part.now }
-{
-    let n = part.len();
-    if n == 0 {
-        return true;
+impl Collect for Datalink {
+    ghost step = { step };
+
+    ghost held = { held };
+
+    // Where the byte b behind the part frame goes.
+    fn place(part: &[u8], b: u8) -> Place {
+        let n = part.len();
+        if n + 1 < Datalink::SHORTEST {
+            if b == Datalink::START {
+                return Place::Behind;
+            }
+            return Place::Nowhere;
+        }
+        if n == Datalink::SECOND {
+            return second_place(b);
+        }
+        if n == Datalink::NUM {
+            if (DATA_MOST as u8) < b {
+                return Place::Nowhere;
+            }
+            return Place::Behind;
+        }
+        if size(part[Datalink::SECOND], part[Datalink::NUM]) <= n + 1 {
+            return Place::Last;
+        }
+        Place::Behind
     }
-    if part[0] != Datalink::START {
-        return false;
+
+    // How many bytes behind the part frame are kept, whatever they are.
+    fn sure(part: &[u8]) -> usize {
+        let n = part.len();
+        if n <= Datalink::NUM {
+            return 0;
+        }
+        size(part[Datalink::SECOND], part[Datalink::NUM]) - n - 1
     }
-    if n == Datalink::SECOND {
-        return true;
+
+    // Whether bytes are a part frame that a line leads to.
+    fn holds(part: &[u8]) -> bool {
+        let n = part.len();
+        if n == 0 {
+            return true;
+        }
+        if part[0] != Datalink::START {
+            return false;
+        }
+        if n == Datalink::SECOND {
+            return true;
+        }
+        if !goes_on(part[Datalink::SECOND]) {
+            return false;
+        }
+        if n == Datalink::NUM {
+            return true;
+        }
+        holds_num(part)
     }
-    if !goes_on(part[Datalink::SECOND]) {
-        return false;
-    }
-    if n == Datalink::NUM {
-        return true;
-    }
-    holds_num(part)
 }

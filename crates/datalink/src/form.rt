@@ -1,14 +1,23 @@
 // The dialect's type: its shortest and longest frame and the rest of its form, for frame checks and receivers.
-ghost use Rattle.std.specs.Prelude.{◌≡◌};
-ghost use Rattle.datalink.specs.Form.{length_right};
+ghost use Rattle.datalink.specs.Form.{shortest, longest};
+
+use receiver::Frames;
 
 #[derive(Clone, Copy)]
 pub struct Datalink {}
 
-impl Datalink {
-    pub const SHORTEST: usize = 2;
+// "Datalink 2 and 38": the shortest and the longest frame.
+impl Frames for Datalink {
+    const SHORTEST: usize = 2;
 
-    pub const LONGEST: usize = 38;
+    const LONGEST: usize = 38;
+
+    ghost SHORTEST = { shortest };
+
+    ghost LONGEST = { longest };
+}
+
+impl Datalink {
     // The first byte of every frame.
     pub const START: u8 = 0x7E;
     // The second byte: command bits plus I.A.
@@ -38,11 +47,4 @@ impl Datalink {
     pub const ACKNOWLEDGE_SIZE: usize = 2;
 
     pub const BARE: usize = 6;
-
-    // Whether a frame may be n bytes long.
-    pub(crate) fn fits(n: usize) -> bool
-        ensures { result ≡ length_right n }
-    {
-        (Datalink::SHORTEST <= n) & (n <= Datalink::LONGEST)
-    }
 }

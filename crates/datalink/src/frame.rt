@@ -2,7 +2,7 @@
 ghost use Rattle.std.specs.Prelude.{◌≡◌, ◌≤◌, true, length};
 ghost use Rattle.datalink.specs.Form.{shortest};
 ghost use Rattle.datalink.specs.Frame.{ia_in, command_in, kind_of, command_known, carried, form_right, lrc_right, asked};
-ghost use Rattle.datalink.specs.Stages.{order_in, order_at, order_here};
+ghost use Rattle.datalink.specs.Stages.{command_of, order_in, order_at, order_here};
 
 use crate::form::Datalink;
 use card::change;
@@ -10,21 +10,24 @@ use card::change::{CHANGE, CHANGE_BITS, NO_CHANGE};
 use card::numbers::{
     CHECK_CHARACTER, COMMAND_UNKNOWN, FOREIGN_ADDRESS, FRAME_FORM, RANGE_UNKNOWN, READ_ONLY,
 };
+use receiver::Frames;
 
 // What a frame asks.
 #[derive(Clone, Copy)]
 pub enum Order {
-    // Refused with a number, and no bytes are sent.
-    Silent(u8),
     // Interrogate: the address and how many bytes from there on.
     Interrogate(u16, u8),
-    // Change or Change Bits: its kind and NUM.
+    // Change or Change Bits: its kind and NUM. The kind is the byte that the row keeps, which C lends (`nk_datalink`), so it stays a number.
     Change(u8, u8),
     // Acknowledge.
     Acknowledge,
 }
 
-// The I.A. of a frame.
+// Refused with a number, and no bytes are sent: all refusals of this dialect are silent.
+#[derive(Clone, Copy)]
+pub struct Silent(pub u8);
+
+// The I.A. of a frame. By %, as the command bits below by / and *: specs/Frame.antt states both so.
 fn ia_in(f: &[u8]) -> u32
     requires { shortest ≤ length f.now }
     ensures { result ≡ ia_in f.now }
@@ -32,12 +35,19 @@ fn ia_in(f: &[u8]) -> u32
     (f[Datalink::SECOND] % Datalink::IA_VALUES) as u32
 }
 
+// The command bits of a second byte.
+pub(crate) fn command_of(second: u8) -> u8
+    ensures { result ≡ command_of second }
+{
+    second / Datalink::IA_VALUES * Datalink::IA_VALUES
+}
+
 // The command bits of a frame.
 fn command_in(f: &[u8]) -> u8
     requires { shortest ≤ length f.now }
     ensures { result ≡ command_in f.now }
 {
-    f[Datalink::SECOND] / Datalink::IA_VALUES * Datalink::IA_VALUES
+    command_of(f[Datalink::SECOND])
 }
 
 // Whether a command is one of the four.
@@ -74,7 +84,7 @@ pub(crate) fn data_carried(kind: u8, num: u8) -> u8
     num
 }
 
-// Length and NUM of a frame of this command.
+// Length and NUM of a frame of this command. The command stands beside its frame, here and below: a struct of both would be a type more.
 fn form_right(command: u8, f: &[u8]) -> bool
     requires { command ≡ command_in f.now }
     ensures { result ≡ form_right f.now }
@@ -103,29 +113,29 @@ fn lrc_right(command: u8, f: &[u8]) -> bool
 }
 
 // A frame of this kind, NUM and address: range, read-only for a change, and what it asks.
-fn order_at(kind: u8, num: u8, at: u16) -> Order
+fn order_at(kind: u8, num: u8, at: u16) -> Result<Order, Silent>
     ensures { result ≡ order_at kind num at }
 {
     let n = change::bytes_named(kind, num);
     if !change::in_memory(at, n) {
-        return Order::Silent(RANGE_UNKNOWN);
+        return Err(Silent(RANGE_UNKNOWN));
     }
     if kind == NO_CHANGE {
-        return Order::Interrogate(at, num);
+        return Ok(Order::Interrogate(at, num));
     }
     if change::names_read_only(at, n) {
-        return Order::Silent(READ_ONLY);
+        return Err(Silent(READ_ONLY));
     }
-    Order::Change(kind, num)
+    Ok(Order::Change(kind, num))
 }
 
 // A frame of this command whose form and LRC are right.
-fn order_in(command: u8, f: &[u8]) -> Order
+fn order_in(command: u8, f: &[u8]) -> Result<Order, Silent>
     requires { (command ≡ command_in f.now) × (form_right f.now ≡ true) }
     ensures { result ≡ order_in f.now }
 {
     if command == Datalink::ACKNOWLEDGE {
-        return Order::Acknowledge;
+        return Ok(Order::Acknowledge);
     }
     let kind = kind_of(command);
     let at = change::two_bytes(f[Datalink::LOW_ADDRESS], f[Datalink::HIGH_ADDRESS]);
@@ -133,34 +143,34 @@ fn order_in(command: u8, f: &[u8]) -> Order
 }
 
 // A frame of this command to this unit: command, length and NUM, LRC.
-fn order_here(command: u8, f: &[u8]) -> Order
+fn order_here(command: u8, f: &[u8]) -> Result<Order, Silent>
     requires { (shortest ≤ length f.now) × (command ≡ command_in f.now) }
     ensures { result ≡ order_here f.now }
 {
     if !command_known(command) {
-        return Order::Silent(COMMAND_UNKNOWN);
+        return Err(Silent(COMMAND_UNKNOWN));
     }
     if !form_right(command, f) {
-        return Order::Silent(FRAME_FORM);
+        return Err(Silent(FRAME_FORM));
     }
     if !lrc_right(command, f) {
-        return Order::Silent(CHECK_CHARACTER);
+        return Err(Silent(CHECK_CHARACTER));
     }
     order_in(command, f)
 }
 
 // What the frame f asks of the unit at ia.
-pub fn order_of(ia: u32, f: &[u8]) -> Order
+pub fn order_of(ia: u32, f: &[u8]) -> Result<Order, Silent>
     ensures { result ≡ asked ia f.now }
 {
     if !Datalink::fits(f.len()) {
-        return Order::Silent(FRAME_FORM);
+        return Err(Silent(FRAME_FORM));
     }
     if f[0] != Datalink::START {
-        return Order::Silent(FRAME_FORM);
+        return Err(Silent(FRAME_FORM));
     }
     if ia_in(f) != ia {
-        return Order::Silent(FOREIGN_ADDRESS);
+        return Err(Silent(FOREIGN_ADDRESS));
     }
     order_here(command_in(f), f)
 }

@@ -28,6 +28,7 @@ pub fn datalink(
         let after = card_of words.now memory.new ports.new in
         Gave (datalink_reply before (length out.old) f.now) out.old result after out.new }
 {
+    // A number and no Result: `nk_datalink` hands it to C, and every dialect's entry has this form.
     let number = card::stop_early(words, memory, ports, ROOM_LEAST, out.len());
     if number != ANSWERED {
         return Outcome { number, len: 0 };

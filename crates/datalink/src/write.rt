@@ -4,7 +4,6 @@ ghost use Rattle.card.specs.Reply.{Wrote, room_least};
 ghost use Rattle.datalink.specs.Form.{beside_body, framed};
 
 use crate::form::Datalink;
-use std::num::wrapping_add_u8;
 
 // Writes a frame at the front of out: 7Eh, its second byte, a body of head and then bytes, and the LRC.
 pub fn write_frame(out: &mut [u8], second: u8, head: &[u8], bytes: &[u8]) -> usize
@@ -13,10 +12,10 @@ pub fn write_frame(out: &mut [u8], second: u8, head: &[u8], bytes: &[u8]) -> usi
 {
     out[0] = Datalink::START;
     out[Datalink::SECOND] = second;
-    let headed = wrapping_add_u8(second, wire::copy_sum(head, out, Datalink::NUM));
+    let headed = wire::copy_sum(head, out, Datalink::NUM);
     let at = Datalink::NUM + head.len();
-    let lrc = wrapping_add_u8(headed, wire::copy_sum(bytes, out, at));
+    let summed = wire::copy_sum(bytes, out, at);
     let end = at + bytes.len();
-    out[end] = lrc;
+    out[end] = second.wrapping_add(headed).wrapping_add(summed);
     end + 1
 }

@@ -1,7 +1,6 @@
 -- Document 01's checked examples hold of the written meanings: one claim over all rows, computed; and so do the cases of document 02.
 -- Assumes nothing.
-use mathlib.Core.Path.{◌≡◌, refl}
-use mathlib.Core.Bool.{true}
+use Rattle.std.proofs.Common.{◌≡◌, true, refl}
 use Rattle.wire.proofs.Computed.{computed as wire-computed}
 use Rattle.figures.proofs.Computed.{computed as figures-computed}
 use Rattle.card.proofs.Computed.{computed as card-computed}

@@ -1,9 +1,6 @@
 -- Document 02, M-100: what receivers make of lines of bytes, computed; each run breaks a receiver that follows one of its sentences otherwise.
 -- Assumes nothing.
-use mathlib.Core.Path.{◌≡◌, refl}
-use mathlib.Core.List.{List, [], ◌∷◌, ◌++◌}
-use Prim.Native.Nat.{ℕ}
-use lib.ListN.{replicate}
+use Rattle.std.proofs.Common.{◌≡◌, ℕ, List, [], ◌∷◌, ◌++◌, replicate, refl}
 use Rattle.wire.proofs.Computed.{computed as wire-computed}
 use Rattle.receiver.specs.Step.{Step, at_rest}
 use Rattle.receiver.specs.Line.{collect}

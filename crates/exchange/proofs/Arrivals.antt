@@ -1,15 +1,7 @@
 -- What an arrival of each of the master's frames, and another's frame, does to the card. Assumes nothing.
-use mathlib.Core.Path.{◌≡◌, refl, sym, ap, ◌∙◌, subst}
-use mathlib.Core.Bool.{Bool, true, not}
-use mathlib.Core.List.{List, [], ◌∷◌, ◌++◌}
-use mathlib.Core.Logic.{◌⊎◌}
-use mathlib.Core.Logic.◌⊎◌.{inl, inr}
+use Rattle.std.proofs.Common.{◌≡◌, ℕ, ◌+◌, ◌-◌, ◌≤◌, Bool, true, not, eqb, leb, ◌⊎◌, List, [], ◌∷◌, ◌++◌, length, get_or, take, Ok, Result, sym, refl, ap, ◌∙◌, subst, inl, inr, arith, lit≤, eqb-true}
 use Prim.{tt}
-use Prim.Native.Nat.{ℕ, ◌+◌, ◌-◌, ◌≤◌}
-use native.Mathlib.Omega.{arith}
-use borrow.Author.Tests.{eqb-true, eqb-false}
-use lib.Dec.{leb, eqb, lit≤}
-use lib.ListN.{length, get_or, take}
+use borrow.Author.Tests.{eqb-false}
 use lib.Seq.{take-append_seam}
 use Rattle.wire.specs.Choose.{choose}
 use Rattle.wire.specs.Buffer.{part}
@@ -22,10 +14,11 @@ use Rattle.card.specs.Change.{no_change, in_memory, names_read_only}
 use Rattle.card.specs.Fitness.{fit}
 use Rattle.card.specs.Reply.{Reply, silent, shell, room_least}
 use Rattle.datalink.specs.Form.{frame_num_at, frame_data_at, framed}
-use Rattle.datalink.specs.Frame.{asked}
+use Rattle.datalink.specs.Frame.{refused, asked}
 use Rattle.datalink.specs.Answer.{response, ia_of, shown, body_of, pended, applied, echoed, interrogated, acknowledged, obeyed, datalink_reply}
 use Rattle.datalink.specs.declared.frame.Order.{Order}
-use Rattle.datalink.specs.declared.frame.Order.TheVariants.{Silent, Interrogate, Change, Acknowledge}
+use Rattle.datalink.specs.declared.frame.Silent.{Silent}
+use Rattle.datalink.specs.declared.frame.Order.TheVariants.{Interrogate, Change, Acknowledge}
 use Rattle.master.specs.Request.{Request, named_by}
 use Rattle.master.specs.Accepted.{Accepted}
 use Rattle.master.specs.Frames.{data_of, command_of, body, change_body, change_frame, acknowledge_frame, interrogate_frame, echo}
@@ -75,14 +68,14 @@ module _ (card : Card) (f : List ℕ) (Good : Reply → Type 0) where
   abbrev Got : Reply → Type 0
   Got r = Turned card r ⊎ Good r
 
-  frame_arrives : (room : ℕ) (o : Order) → asked (ia_of card) f ≡ o → (fit card ≡ true → Got (obeyed card f o)) → Got (datalink_reply card room f)
+  frame_arrives : (room : ℕ) (o : Result Order Silent) → asked (ia_of card) f ≡ o → (fit card ≡ true → Got (obeyed card f o)) → Got (datalink_reply card room f)
   frame_arrives room o e p =
-      by_shell Got card room f (inl (turned card card_unfit (lit≤ tt))) (inl (turned card buffer_short (lit≤ tt))) (λ t. subst (λ (x : Order). Got (obeyed card f x)) (sym e) (p t))
+      by_shell Got card room f (inl (turned card card_unfit (lit≤ tt))) (inl (turned card buffer_short (lit≤ tt))) (λ t. subst (λ (x : Result Order Silent). Got (obeyed card f x)) (sym e) (p t))
 
   -- a test of the order: its refusal turns the frame away
-  or_turned : (t : Bool) (o : Order) (number : ℕ) → foreign_address ≤ number → (t ≡ true → Got (obeyed card f o)) → Got (obeyed card f (choose t o (Silent number)))
+  or_turned : (t : Bool) (o : Result Order Silent) (number : ℕ) → foreign_address ≤ number → (t ≡ true → Got (obeyed card f o)) → Got (obeyed card f (choose t o (refused number)))
   unfolding obeyed
-  or_turned t o number h p = by_choice (λ (x : Order). Got (obeyed card f x)) t o (Silent number) p (λ _. inl (turned card number h))
+  or_turned t o number h p = by_choice (λ (x : Result Order Silent). Got (obeyed card f x)) t o (refused number) p (λ _. inl (turned card number h))
 
 module _ (q : Request) (a : Accepted q) (card : Card) where
   -- the body of the change as the card takes it out of the frame
@@ -102,7 +95,7 @@ module _ (q : Request) (a : Accepted q) (card : Card) where
       frame_arrives card f (Echoed q card) room _ (order_change (ia_of card) q a)
       (λ t. or_turned card f (Echoed q card) (eqb q.ia (ia_of card)) _ foreign_address (lit≤ tt)
       (λ here. or_turned card f (Echoed q card) (in_memory q.address n) _ range_unknown (lit≤ tt)
-      (λ inside. or_turned card f (Echoed q card) (not (names_read_only q.address n)) (Change (kind_for q.ask) num) read_only (lit≤ tt)
+      (λ inside. or_turned card f (Echoed q card) (not (names_read_only q.address n)) (Ok (Change (kind_for q.ask) num)) read_only (lit≤ tt)
       (λ free.
       let unit : ia_of card ≡ q.ia = sym (eqb-true q.ia (ia_of card) here) in
       inr (record { bytes = rw (unit, body_taken); pends = ap (pended card (kind_for q.ask)) body_taken; range = rw (inside, free); fitting = t })))))
@@ -112,7 +105,7 @@ module _ (q : Request) (a : Accepted q) (card : Card) where
   acknowledge_arrives room =
       let f = acknowledge_frame q in
       frame_arrives card f (Applied card) room _ (order_acknowledge (ia_of card) q a)
-      (λ t. or_turned card f (Applied card) (eqb q.ia (ia_of card)) Acknowledge foreign_address (lit≤ tt)
+      (λ t. or_turned card f (Applied card) (eqb q.ia (ia_of card)) (Ok Acknowledge) foreign_address (lit≤ tt)
       (λ _. by_choice (λ (r : Reply). Turned card r ⊎ Applied card r) (eqb (get_or card.ports kind_at 0) no_change) _ _
       (λ _. inl (turned card nothing_pending (lit≤ tt)))
       (λ some. inr (record { ports = eqb-false (get_or card.ports kind_at 0) no_change some; applies = refl; fitting = t }))))
@@ -129,7 +122,7 @@ module _ (q : Request) (a : Accepted q) (card : Card) where
       let n = named_by q.ask in
       frame_arrives card f (Shown q card) room _ (order_interrogate (ia_of card) q a)
       (λ t. or_turned card f (Shown q card) (eqb q.ia (ia_of card)) _ foreign_address (lit≤ tt)
-      (λ here. or_turned card f (Shown q card) (in_memory q.address n) (Interrogate q.address n) range_unknown (lit≤ tt)
+      (λ here. or_turned card f (Shown q card) (in_memory q.address n) (Ok (Interrogate q.address n)) range_unknown (lit≤ tt)
       (λ _.
       let unit : ia_of card ≡ q.ia = sym (eqb-true q.ia (ia_of card) here) in
       inr (record { bytes = rw (unit, head_taken); kept = refl; fitting = t }))))

@@ -1,15 +1,6 @@
 -- The invariant under an arrival of the frame last sent. Assumes nothing.
-use mathlib.Core.Path.{◌≡◌, sym, ◌∙◌, subst}
-use mathlib.Core.Bool.{Bool, true, not}
-use mathlib.Core.List.{List, []}
-use mathlib.Core.Logic.{◌⊎◌}
-use mathlib.Core.Logic.◌⊎◌.{inl, inr}
-use Prim.Native.Nat.{ℕ, ◌+◌, ◌-◌, ◌≤◌}
-use native.Mathlib.Omega.{arith}
-use borrow.Author.Tests.{eqb-true, leb-false, not-true}
-use lib.Dec.{eqb}
-use lib.ListN.{length, drop, length-take, length-drop}
-use lib.Seq.{get_or-drop, get_or-take}
+use Rattle.std.proofs.Common.{◌≡◌, ℕ, ◌+◌, ◌-◌, ◌≤◌, Bool, true, not, eqb, ◌⊎◌, List, [], length, drop, sym, ◌∙◌, subst, inl, inr, arith, length-drop, length-take, get_or-drop, get_or-take, eqb-true, leb-false}
+use borrow.Author.Tests.{not-true}
 use Rattle.wire.proofs.Cases.{by_choice}
 use Rattle.card.specs.Numbers.{answered, foreign_address}
 use Rattle.card.specs.Layout.{Card}

@@ -1,14 +1,6 @@
 -- Demand 3 over collected frames: each such list is a list of whole frames, so that the theorem over those serves. Assumes nothing.
-use mathlib.Core.Path.{◌≡◌, refl, sym, ap, ◌∙◌, subst}
-use mathlib.Core.Bool.{true}
-use mathlib.Core.List.{List, [], ◌∷◌}
-use mathlib.Core.Logic.{◌⊎◌}
-use mathlib.Core.Logic.◌⊎◌.{inl, inr}
+use Rattle.std.proofs.Common.{◌≡◌, ℕ, ◌<◌, ◌≤◌, true, eqb, ltb, ◌⊎◌, List, [], ◌∷◌, Ok, Err, Result, sym, refl, ap, ◌∙◌, subst, inl, inr, arith, ltb-true, eq-eqb}
 use Prim.{Unit, tt}
-use Prim.Native.Nat.{ℕ, ◌≤◌, ◌<◌}
-use native.Mathlib.Omega.{arith}
-use borrow.Author.Tests.{ltb-true, eq-eqb}
-use lib.Dec.{ltb, eqb}
 use Rattle.wire.specs.Choose.{choose}
 use Rattle.wire.specs.Buffer.{same}
 use Rattle.wire.proofs.Cases.{yes, by_choice}
@@ -17,10 +9,11 @@ use Rattle.receiver.specs.Line.{Whole}
 use Rattle.card.specs.Numbers.{foreign_address, frame_form, command_unknown, range_unknown, read_only}
 use Rattle.card.specs.Layout.{Card}
 use Rattle.card.specs.Change.{in_memory}
-use Rattle.datalink.specs.Frame.{asked}
+use Rattle.datalink.specs.Frame.{refused, asked}
 use Rattle.datalink.specs.Receiver.{step}
 use Rattle.datalink.specs.declared.frame.Order.{Order}
-use Rattle.datalink.specs.declared.frame.Order.TheVariants.{Silent, Interrogate, Change, Acknowledge}
+use Rattle.datalink.specs.declared.frame.Silent.{Silent}
+use Rattle.datalink.specs.declared.frame.Order.TheVariants.{Interrogate, Acknowledge}
 use Rattle.datalink.proofs.Receiver.{whole_asked}
 use Rattle.receive.specs.declared.Dialect.TheVariants.{Datalink, Lecom, Love, Lucid}
 use Rattle.master.specs.Request.{Request, named_by, askable}
@@ -114,16 +107,14 @@ demand_3_collected_in_c q start feeds e h =
     subst (Demand3 in_c q start) (sym (feeding_run in_c q w feeds)) (demand_3_in_c q start (plain in_c q w feeds) e (quiet_worded in_c q w.world (plain in_c q w feeds) (calm_worded in_c q w feeds h)))
 
 -- the master's three frames are handed over whole: none of them is refused for first byte, I.A., command, length or NUM
-abbrev Formed : Order → Type 0
-Formed (Silent n) = read_only ≤ n ⊎ (n ≡ range_unknown)
-Formed (Interrogate at n) = Unit {0}
-Formed (Change kind num) = Unit {0}
-Formed Acknowledge = Unit {0}
+abbrev Formed : Result Order Silent → Type 0
+Formed (Err refusal) = (read_only ≤ refusal.0) ⊎ (refusal.0 ≡ range_unknown)
+Formed (Ok order) = Unit {0}
 
 formed_whole : (ia : ℕ) (f : List ℕ) → Formed (asked ia f) → Whole step f
 formed_whole ia f k = whole_asked ia f (no frame_form (omega arith) (omega arith)) (no foreign_address (omega arith) (omega arith)) (no command_unknown (omega arith) (omega arith))
   where
-    no : (n : ℕ) → n < range_unknown → n < read_only → asked ia f ≡ Silent n → ⊥
+    no : (n : ℕ) → n < range_unknown → n < read_only → asked ia f ≡ refused n → ⊥
     no n a b e = go (subst Formed e k)
       where
         go : (read_only ≤ n) ⊎ (n ≡ range_unknown) → ⊥
@@ -141,7 +132,7 @@ module _ (q : Request) (a : Accepted q) where
       formed_whole q.ia (acknowledge_frame q)
       (subst Formed (sym (order_acknowledge q.ia q a ∙ chosen)) tt)
     where
-      chosen : choose (eqb q.ia q.ia) Acknowledge (Silent foreign_address) ≡ Acknowledge
+      chosen : choose (eqb q.ia q.ia) (Ok Acknowledge) (refused foreign_address) ≡ Ok Acknowledge
       chosen = sym (yes _ _ _ _ (eq-eqb q.ia q.ia refl) refl)
 
   pub interrogate_whole : Whole step (interrogate_frame q)
@@ -149,8 +140,8 @@ module _ (q : Request) (a : Accepted q) where
       formed_whole q.ia (interrogate_frame q)
       (subst Formed (sym (order_interrogate q.ia q a ∙ chosen)) (by_choice Formed _ _ _ (λ _. tt) (λ _. inr refl)))
     where
-      rest : Order
-      rest = choose (in_memory q.address (named_by q.ask)) (Interrogate q.address (named_by q.ask)) (Silent range_unknown)
+      rest : Result Order Silent
+      rest = choose (in_memory q.address (named_by q.ask)) (Ok (Interrogate q.address (named_by q.ask))) (refused range_unknown)
 
-      chosen : choose (eqb q.ia q.ia) rest (Silent foreign_address) ≡ rest
+      chosen : choose (eqb q.ia q.ia) rest (refused foreign_address) ≡ rest
       chosen = sym (yes _ _ _ _ (eq-eqb q.ia q.ia refl) refl)

@@ -1,9 +1,6 @@
 -- Runs over collected frames, computed: what is an arrival, and what is another frame. Assumes nothing.
-use mathlib.Core.Path.{◌≡◌, refl}
-use mathlib.Core.Bool.{Bool, true, false, ◌&&◌}
-use mathlib.Core.List.{List, [], ◌∷◌, ◌++◌}
+use Rattle.std.proofs.Common.{◌≡◌, ℕ, zero, suc, Bool, true, false, ◌&&◌, List, [], ◌∷◌, ◌++◌, refl}
 use Prim.{Unit, tt}
-use Prim.Native.Nat.{ℕ, zero, suc}
 use Rattle.receiver.proofs.Computed.{computed as receiver-computed}
 use Rattle.card.specs.Layout.{Card}
 use Rattle.lecom.proofs.Computed.{computed as lecom_computed}

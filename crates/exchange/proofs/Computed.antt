@@ -1,13 +1,6 @@
 -- What the runs are computed with: every definition open, a test of the premise, and a card and requests to run. Assumes nothing.
-use mathlib.Core.Path.{◌≡◌}
-use mathlib.Core.Bool.{Bool, true, false, ◌&&◌, ◌||◌, not}
-use mathlib.Core.List.{List, [], ◌∷◌}
+use Rattle.std.proofs.Common.{◌≡◌, ℕ, ◌-◌, Bool, true, false, not, ◌&&◌, ◌||◌, leb, List, [], ◌∷◌, replicate, arith, leb-true}
 use Prim.{Unit, tt}
-use Prim.Native.Nat.{ℕ, ◌-◌}
-use native.Mathlib.Omega.{arith}
-use borrow.Author.Tests.{leb-true}
-use lib.Dec.{leb}
-use lib.ListN.{replicate}
 use Rattle.wire.proofs.Tests.{and_true}
 use Rattle.wire.proofs.Computed.{computed as wire-computed}
 use Rattle.card.proofs.Computed.{computed as card-computed}

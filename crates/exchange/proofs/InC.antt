@@ -1,9 +1,6 @@
 -- Demand 3 for the exchange as C runs it: its lists go as the written master's, with each phase as its number. Assumes nothing.
-use mathlib.Core.Path.{◌≡◌, refl, sym, ap, ◌∙◌, subst}
-use mathlib.Core.Bool.{true}
-use mathlib.Core.List.{List, [], ◌∷◌}
+use Rattle.std.proofs.Common.{◌≡◌, ℕ, true, List, [], ◌∷◌, sym, refl, ap, ◌∙◌, subst}
 use Prim.{tt}
-use Prim.Native.Nat.{ℕ}
 use Rattle.card.specs.Layout.{Card}
 use Rattle.master.specs.Request.{Request, askable}
 use Rattle.master.specs.Step.{Move, step_of}

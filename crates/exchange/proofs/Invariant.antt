@@ -1,14 +1,6 @@
 -- What is so in each phase of the master, and that every call but a step and an arrival keeps it. Assumes nothing.
-use mathlib.Core.Path.{◌≡◌, sym, ap, ◌∙◌}
-use mathlib.Core.Bool.{Bool, true}
-use mathlib.Core.List.{List, [], ◌∷◌}
-use mathlib.Core.Logic.{◌⊎◌}
-use mathlib.Core.Logic.◌⊎◌.{inl, inr}
+use Rattle.std.proofs.Common.{◌≡◌, ℕ, ◌+◌, ◌-◌, ◌<◌, ◌≤◌, Bool, true, ◌⊎◌, List, [], ◌∷◌, length, get_or, take, sym, ap, ◌∙◌, inl, inr, arith, get_or-take}
 use Prim.{Unit, tt}
-use Prim.Native.Nat.{ℕ, ◌+◌, ◌-◌, ◌≤◌, ◌<◌}
-use native.Mathlib.Omega.{arith}
-use lib.ListN.{length, get_or, take}
-use lib.Seq.{get_or-take}
 use Rattle.card.specs.Layout.{Card, kind_at, pending_size}
 use Rattle.card.specs.Change.{memory_start, writable_start}
 use Rattle.datalink.specs.Answer.{response}

@@ -1,14 +1,8 @@
 -- Writable memory and the pending change under each call of the card. Assumes nothing.
-use mathlib.Core.Path.{◌≡◌, refl, sym, ap, ap₂, ◌∙◌}
-use mathlib.Core.Bool.{Bool, true, false, ◌&&◌, not}
-use mathlib.Core.List.{List, ◌∷◌, ◌++◌}
-use Prim.Native.Nat.{ℕ, zero, suc, ◌+◌, ◌-◌, ◌*◌, ◌%◌, ◌/◌, ◌≤◌, ◌<◌}
-use native.Mathlib.Omega.{arith}
-use borrow.Author.Tests.{leb-true, ltb-false, eqb-true, eqb-false}
-use lib.Bits.{bit_and, bit_or}
-use lib.Dec.{leb, ltb, eqb}
-use lib.ListN.{length, get_or, set, take, drop, take-append-drop, get_or-append}
-use lib.Seq.{get_or-set_same, get_or-set_other, take-take, take-append_seam}
+use Rattle.std.proofs.Common.{◌≡◌, ℕ, zero, suc, ◌+◌, ◌-◌, ◌*◌, ◌/◌, ◌%◌, ◌<◌, ◌≤◌, Bool, true, false, not, ◌&&◌, eqb, ltb, leb, List, ◌∷◌, ◌++◌, length, get_or, take, drop, set, bit_and, bit_or, sym, refl, ap, ◌∙◌, ap₂, arith, take-append-drop, get_or-set_other, get_or-set_same, take-take, ltb-false, eqb-true, leb-true}
+use borrow.Author.Tests.{eqb-false}
+use lib.ListN.{get_or-append}
+use lib.Seq.{take-append_seam}
 use Rattle.wire.proofs.Tests.{and_true}
 use Rattle.wire.specs.Choose.{choose}
 use Rattle.wire.specs.Buffer.{overlay}

@@ -1,23 +1,17 @@
 -- The claim says something: runs that break a clause, without the premise, with a wrong master and with a wrong card. Assumes nothing.
-use mathlib.Core.Path.{◌≡◌, refl}
-use mathlib.Core.Logic.{⊎_elim}
-use mathlib.Core.Bool.{true}
-use mathlib.Core.List.{List, [], ◌∷◌}
+use Rattle.std.proofs.Common.{◌≡◌, ℕ, true, eqb, leb, List, [], ◌∷◌, get_or, set, Ok, Err, Result, refl, ⊎_elim, arith, lit<, lit≤}
 use Prim.{tt}
-use Prim.Native.Nat.{ℕ}
-use native.Mathlib.Omega.{arith}
-use lib.Dec.{leb, eqb, lit≤, lit<}
-use lib.ListN.{set, get_or}
 use Rattle.wire.specs.Choose.{choose}
 use Rattle.card.specs.Numbers.{answered, buffer_short, value_outside, nothing_pending, done}
 use Rattle.card.specs.Layout.{Card, card_of}
 use Rattle.card.specs.Entries.{with_code}
 use Rattle.card.specs.Reply.{Reply, silent}
 use Rattle.datalink.specs.Form.{framed, longest}
-use Rattle.datalink.specs.Frame.{asked}
+use Rattle.datalink.specs.Frame.{refused, asked}
 use Rattle.datalink.specs.Answer.{ia_of, applied_to}
 use Rattle.datalink.specs.declared.frame.Order.{Order}
-use Rattle.datalink.specs.declared.frame.Order.TheVariants.{Silent, Interrogate, Change, Acknowledge}
+use Rattle.datalink.specs.declared.frame.Silent.{Silent}
+use Rattle.datalink.specs.declared.frame.Order.TheVariants.{Interrogate, Change, Acknowledge}
 use Rattle.master.specs.Request.{Request, askable}
 use Rattle.master.specs.Request.Ask.{bytes}
 use Rattle.master.specs.Frames.{body, change_frame, acknowledge_frame, interrogate_frame, is_echo, confirms}
@@ -223,29 +217,29 @@ abbrev card_by : (Card → Entry → Reply) → Build Phase
 card_by replies = record { new = New; says = says_of; step = step_of; card = replies }
 
 -- what a call asks of the Datalink entry
-abbrev frame_asks : Card → Dialect → List ℕ → Order
+abbrev frame_asks : Card → Dialect → List ℕ → Result Order Silent
 frame_asks card Datalink f = asked (ia_of card) f
-frame_asks card Lecom f = Silent 0
-frame_asks card Love f = Silent 0
-frame_asks card Lucid f = Silent 0
+frame_asks card Lecom f = refused 0
+frame_asks card Love f = refused 0
+frame_asks card Lucid f = refused 0
 
-abbrev asks : Card → Entry → Order
-asks card (SetCode channel code) = Silent 0
-asks card Restart = Silent 0
-asks card (Governor channel) = Silent 0
+abbrev asks : Card → Entry → Result Order Silent
+asks card (SetCode channel code) = refused 0
+asks card Restart = refused 0
+asks card (Governor channel) = refused 0
 asks card (Frame dialect room f) = frame_asks card dialect f
-asks card (Receive dialect room come) = Silent 0
-asks card (Quiet dialect) = Silent 0
-asks card (WriteImage room) = Silent 0
-asks card (ReadImage img) = Silent 0
+asks card (Receive dialect room come) = refused 0
+asks card (Quiet dialect) = refused 0
+asks card (WriteImage room) = refused 0
+asks card (ReadImage img) = refused 0
 
 -- one that applies a change at its echo, and once more at the acknowledge: the customer's clauses do not catch it, since to ask once more changes nothing; `untouched` does
-unfoldable eagerly : Order → Reply → Reply
-eagerly (Silent number) r = r
-eagerly (Interrogate at n) r = r
-eagerly (Change kind num) r =
+unfoldable eagerly : Result Order Silent → Reply → Reply
+eagerly (Err refusal) r = r
+eagerly (Ok (Interrogate at n)) r = r
+eagerly (Ok (Change kind num)) r =
     choose (eqb r.number answered) (record { number = r.number; bytes = r.bytes; card = card_of r.card.words (applied_to r.card.memory r.card.ports) r.card.ports }) r
-eagerly Acknowledge r = r
+eagerly (Ok Acknowledge) r = r
 
 abbrev eager : Build Phase
 eager = card_by (λ card e. eagerly (asks card e) (reply_of card e))
@@ -256,11 +250,11 @@ refute_eager =
     refuted eager two fresh (alone ∷ arrives ∷ []) refl refl (λ h. let e : ◌≡◌ {A = ℕ} 8 255 = h.untouched (lit≤ tt) 0x1010 (record { low = lit≤ tt; high = lit< tt }) in omega arith)
 
 -- one whose acknowledge leaves the byte 1011h as it was
-unfoldable halved : Card → Order → Reply → Reply
-halved card (Silent number) r = r
-halved card (Interrogate at n) r = r
-halved card (Change kind num) r = r
-halved card Acknowledge r =
+unfoldable halved : Card → Result Order Silent → Reply → Reply
+halved card (Err refusal) r = r
+halved card (Ok (Interrogate at n)) r = r
+halved card (Ok (Change kind num)) r = r
+halved card (Ok Acknowledge) r =
     record { number = r.number; bytes = r.bytes; card = card_of r.card.words (set r.card.memory 0x11 (get_or card.memory 0x11 0)) r.card.ports }
 
 abbrev half : Build Phase

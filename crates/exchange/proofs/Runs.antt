@@ -1,10 +1,5 @@
 -- Runs of the written meanings, computed: what the master says and what the card then holds. Each is allowed by the premise, word for word. Assumes nothing.
-use mathlib.Core.Path.{◌≡◌, refl, ap, ◌∙◌}
-use mathlib.Core.Bool.{true}
-use mathlib.Core.List.{List, [], ◌∷◌, ◌++◌}
-use Prim.Native.Nat.{ℕ, zero, suc, ◌-◌}
-use native.Mathlib.Omega.{arith}
-use lib.ListN.{set}
+use Rattle.std.proofs.Common.{◌≡◌, ℕ, zero, suc, ◌-◌, true, List, [], ◌∷◌, ◌++◌, set, refl, ap, ◌∙◌, arith}
 use Rattle.wire.proofs.Tests.{and_true}
 use Rattle.wire.specs.Word.{word_values}
 use Rattle.card.specs.Layout.{Card, card_of, ia_at}

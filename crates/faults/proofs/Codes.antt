@@ -1,12 +1,6 @@
 -- Another code in a channel: what the card then holds, and how an answer passes the shell. Assumes nothing.
-use Prim.Native.Nat.{ℕ, ◌≤◌, ◌<◌}
-use mathlib.Core.Path.{◌≡◌, refl, sym, ap, ◌∙◌, subst}
-use mathlib.Core.Bool.{Bool, true, false}
-use native.Mathlib.Omega.{arith}
-use borrow.Author.Tests.{le-leb, lt-leb}
-use lib.Dec.{leb}
-use lib.ListN.{get_or, length-set}
-use lib.Seq.{get_or-set_same, get_or-set_other}
+use Rattle.std.proofs.Common.{◌≡◌, ℕ, ◌<◌, ◌≤◌, Bool, true, false, leb, get_or, sym, refl, ap, ◌∙◌, subst, arith, length-set, get_or-set_other, get_or-set_same, le-leb}
+use borrow.Author.Tests.{lt-leb}
 use Rattle.wire.specs.Choose.{choose}
 use Rattle.wire.proofs.Cases.{yes, no}
 use Rattle.card.specs.Numbers.{buffer_short, card_unfit}

@@ -1,10 +1,5 @@
 -- What Datalink's entry owes (specs/NoTemperature.antt): it shows a failed probe's code, 255. Assumes nothing.
-use Prim.Native.Nat.{ℕ, ◌+◌, ◌-◌, ◌≤◌, ◌<◌}
-use mathlib.Core.Path.{◌≡◌, sym, ap, ◌∙◌, subst}
-use mathlib.Core.Bool.{true}
-use mathlib.Core.List.{List}
-use native.Mathlib.Omega.{arith}
-use lib.ListN.{get_or}
+use Rattle.std.proofs.Common.{◌≡◌, ℕ, ◌+◌, ◌-◌, ◌<◌, ◌≤◌, true, List, get_or, Ok, Result, sym, ap, ◌∙◌, subst, arith}
 use Rattle.card.specs.Layout.{Card, channels}
 use Rattle.card.specs.Fitness.{fit}
 use Rattle.card.specs.Entries.{with_code}
@@ -13,6 +8,7 @@ use Rattle.datalink.specs.Frame.{address_in, num_in, asked}
 use Rattle.datalink.specs.Form.{frame_data_at}
 use Rattle.datalink.specs.Answer.{ia_of, interrogated, obeyed, datalink_reply}
 use Rattle.datalink.specs.declared.frame.Order.{Order}
+use Rattle.datalink.specs.declared.frame.Silent.{Silent}
 use Rattle.datalink.specs.declared.frame.Order.TheVariants.{Interrogate}
 use Rattle.datalink.specs.Stages.{Sound}
 use Rattle.datalink.proofs.Frames.{asked_sound}
@@ -29,7 +25,7 @@ passed card room f e l = shell_open card room _ e l
 shows : (card : Card) (channel room : ℕ) (f : List ℕ) → fit card ≡ true → room_least ≤ room → DatalinkAsks card f channel
     → get_or (datalink_reply card room f).bytes (frame_data_at + (0x1000 + channel - address_in f)) 0 ≡ get_or card.memory channel 0
 shows card channel room f e l asks =
-    let s : Sound f (Interrogate (address_in f) (num_in f)) = subst (Sound f) asks.order (asked_sound f (ia_of card)) in
+    let s : Sound f (Ok (Interrogate (address_in f) (num_in f))) = subst (Sound f) asks.order (asked_sound f (ia_of card)) in
     let place : address_in f - 0x1000 + (0x1000 + channel - address_in f) ≡ channel = omega (arith, s.1.0, asks.from) in
     ap (λ (r : Reply). get_or r.bytes (frame_data_at + (0x1000 + channel - address_in f)) 0) (passed card room f e l)
     ∙ interrogate_shows card f (address_in f) (num_in f) (0x1000 + channel - address_in f) e (sym asks.order) (omega (arith, asks.from, asks.to))
@@ -39,7 +35,7 @@ fault : (card : Card) (channel room : ℕ) (f : List ℕ) → fit card ≡ true 
 unfolding obeyed interrogated
 fault card channel room f e l x asks =
     record {
-      number = ap (λ (r : Reply). r.number) (passed card room f e l) ∙ ap (λ (o : Order). (obeyed card f o).number) asks.order;
+      number = ap (λ (r : Reply). r.number) (passed card room f e l) ∙ ap (λ (o : Result Order Silent). (obeyed card f o).number) asks.order;
       byte = shows card channel room f e l asks ∙ x.code;
     }
 

@@ -1,12 +1,5 @@
 -- The theorem of specs/NoTemperature.antt: the governor, the dialects, the entries that are never asked for a probe, and the masters. Assumes nothing.
-use Prim.Native.Nat.{ℕ, ◌<◌}
-use mathlib.Core.Path.{◌≡◌, refl, sym, ap, ◌∙◌, subst}
-use mathlib.Core.Bool.{Bool, true, false}
-use mathlib.Core.List.{List}
-use native.Mathlib.Omega.{arith}
-use borrow.Author.Tests.{lt-ltb}
-use lib.Dec.{leb, ltb, eqb}
-use lib.ListN.{length, get_or}
+use Rattle.std.proofs.Common.{◌≡◌, ℕ, ◌<◌, Bool, true, false, eqb, ltb, leb, List, length, get_or, sym, refl, ap, ◌∙◌, subst, arith, lt-ltb}
 use Rattle.wire.specs.Choose.{choose}
 use Rattle.wire.proofs.Cases.{yes, no, by_both}
 use Rattle.card.specs.Numbers.{answered, done, range_unknown, probe_fault, card_unfit, image_length, image_padding}

@@ -1,10 +1,5 @@
 -- What LECOM's entry owes (specs/NoTemperature.antt). Assumes nothing.
-use Prim.Native.Nat.{ℕ, ◌≤◌, ◌<◌}
-use mathlib.Core.Path.{◌≡◌, refl, sym, ap, ◌∙◌, subst}
-use mathlib.Core.Bool.{true, false}
-use mathlib.Core.List.{List}
-use native.Mathlib.Omega.{arith}
-use lib.ListN.{get_or}
+use Rattle.std.proofs.Common.{◌≡◌, ℕ, ◌<◌, ◌≤◌, true, false, List, get_or, sym, refl, ap, ◌∙◌, subst, arith}
 use Rattle.wire.proofs.Cases.{yes, no, by_choice}
 use Rattle.card.specs.Layout.{Card, channels}
 use Rattle.card.specs.Fitness.{fit}

@@ -1,12 +1,6 @@
 -- What LucidControl's entry owes (specs/NoTemperature.antt). Assumes nothing.
-use Prim.Native.Nat.{ℕ, ◌≤◌, ◌<◌}
-use mathlib.Core.Path.{◌≡◌, refl, sym, ap, ◌∙◌, subst}
-use mathlib.Core.Bool.{Bool, true, false}
-use mathlib.Core.List.{List, ◌∷◌}
-use native.Mathlib.Omega.{arith}
-use borrow.Author.Tests.{eqb-true, eqb-false}
-use lib.Dec.{eqb}
-use lib.ListN.{get_or}
+use Rattle.std.proofs.Common.{◌≡◌, ℕ, ◌<◌, ◌≤◌, Bool, true, false, eqb, List, ◌∷◌, get_or, sym, refl, ap, ◌∙◌, subst, arith, eqb-true}
+use borrow.Author.Tests.{eqb-false}
 use Rattle.card.specs.Numbers.{answered, probe_fault}
 use Rattle.card.specs.Layout.{Card, channels}
 use Rattle.card.specs.Fitness.{fit}

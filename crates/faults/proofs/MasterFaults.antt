@@ -1,12 +1,6 @@
 -- What the masters of LECOM, Love and LucidControl owe (specs/NoTemperature.antt), by their claims and by what the card owes. Assumes nothing.
+use Rattle.std.proofs.Common.{◌≡◌, ℕ, ◌+◌, ◌^◌, ◌<◌, ◌≤◌, Bool, true, false, not, T, eqb, List, [], get_or, Ok, Result, sym, refl, ap, ◌∙◌, subst, ltb-true, Option, Some, None, arith}
 use Prim.{tt}
-use Prim.Native.Nat.{ℕ, ◌+◌, ◌^◌, ◌≤◌, ◌<◌}
-use mathlib.Core.Path.{◌≡◌, refl, sym, ap, ◌∙◌, subst}
-use mathlib.Core.Bool.{Bool, true, false, not}
-use mathlib.Core.List.{List, []}
-use borrow.Author.Tests.{ltb-true}
-use lib.Dec.{T, eqb}
-use lib.ListN.{get_or}
 use Rattle.wire.specs.Choose.{choose}
 use Rattle.wire.specs.Buffer.{same as alike}
 use Rattle.wire.proofs.Cases.{by_choice}
@@ -16,12 +10,16 @@ use Rattle.card.specs.Probe.{fault_code}
 use Rattle.card.specs.Reply.{room_least}
 use Rattle.lecom.specs.Form.{first_probe, named_by}
 use Rattle.lecom.specs.Answer.{address_of as lecomAddress, lecom_reply}
+use Rattle.lecom.specs.Frame.{ordering}
+use Rattle.lecom.specs.declared.form.Named.{Named}
 use Rattle.lecom.specs.declared.form.Named.TheVariants.{Probe}
 use Rattle.lecom.specs.declared.frame.Order.{Order as LecomOrder}
-use Rattle.lecom.specs.declared.frame.Order.TheVariants.{Read as LecomRead}
+use Rattle.lecom.specs.declared.frame.Refusal.{Refusal as LecomRefusal}
+use Rattle.lecom.specs.declared.frame.Order.TheVariants.{Read as LecomRead, Write as LecomWrite}
 use Rattle.lecom.proofs.Values.{named_once}
 use Rattle.love.specs.Answer.{address_of as loveAddress, love_reply}
 use Rattle.love.specs.declared.frame.Order.{Order as LoveOrder}
+use Rattle.love.specs.declared.frame.Refusal.{Refusal as LoveRefusal}
 use Rattle.love.specs.declared.frame.Order.TheVariants.{Probe as LoveProbe}
 use Rattle.lucid.specs.Answer.{named, reads_probe, asks_probe, lucid_reply}
 use Rattle.asking.specs.Hearing.Hearing.{Refused}
@@ -57,23 +55,32 @@ use Rattle.faults.proofs.LucidFaults.{lucid_owes}
 -- LECOM
 
 -- "Codes 60h to 63h are the probes"
-probe_named : (channel : ℕ) → channel < channels → named_by (first_probe + channel) ≡ Probe channel
+probe_named : (channel : ℕ) → channel < channels → named_by (first_probe + channel) ≡ Some (Probe channel)
 unfolding named_by choose
-probe_named channel h = by_four (λ k. named_by (first_probe + k) ≡ Probe k) refl refl refl refl channel h
+probe_named channel h = by_four (λ k. named_by (first_probe + k) ≡ Some (Probe k)) refl refl refl refl channel h
+
+-- an order to read is of what the code names, and no order to write is one
+read_named : (n : Option Named) (named : Named) → ordering LecomRead n ≡ Ok (LecomRead named) → n ≡ Some named
+read_named None named e = cc
+read_named (Some m) named e = cc
+
+write_no_read : {A : Type 0} (n : Option Named) (value : ℕ) (named : Named) → ordering (λ (m : Named). LecomWrite m value) n ≡ Ok (LecomRead named) → A
+write_no_read None value named e = let z : ◌≡◌ {A = ℕ} 0 1 = cc in let w : ⊥ = omega (arith, z) in absurd w
+write_no_read (Some m) value named e = let z : ◌≡◌ {A = ℕ} 0 1 = cc in let w : ⊥ = omega (arith, z) in absurd w
 
 -- a task that is a read of a probe to the card is a read of its code
-lecom_task_law : (task : LecomTask) (channel : ℕ) → channel < channels → lecomOrderOf task ≡ LecomRead (Probe channel) → task ≡ Read (first_probe + channel)
+lecom_task_law : (task : LecomTask) (channel : ℕ) → channel < channels → lecomOrderOf task ≡ Ok (LecomRead (Probe channel)) → task ≡ Read (first_probe + channel)
 unfolding lecomOrderOf
 lecom_task_law (Read code) channel h e =
-    let n : named_by code ≡ Probe channel = cc in
+    let n = read_named (named_by code) (Probe channel) e in
     ap Read (named_once code (first_probe + channel) (rw (probe_named channel h) refl) (n ∙ sym (probe_named channel h)))
-lecom_task_law (Write code value) channel h e = cc
+lecom_task_law (Write code value) channel h e = write_no_read (named_by code) value (Probe channel) e
 
 -- a made frame that asks a card for a probe is of a request for it
 lecom_asks : (q : LecomRequest) → Askable lecom_master q → (card : Card) (channel : ℕ) → channel < channels → LecomAsks card (lecomMade q) channel → LecomRequests q channel
 unfolding lecomAskedOf
 lecom_asks q a card channel h asks =
-    by_choice (λ (o : LecomOrder). o ≡ LecomRead (Probe channel) → LecomRequests q channel) _ _ _ (λ _ e. lecom_task_law q.task channel h e) (λ _ e. cc)
+    by_choice (λ (o : Result LecomOrder LecomRefusal). o ≡ Ok (LecomRead (Probe channel)) → LecomRequests q channel) _ _ _ (λ _ e. lecom_task_law q.task channel h e) (λ _ e. cc)
     (sym ((lecom_claims.means q a).means (lecomAddress card.words)) ∙ asks)
 
 -- a read of a failed probe is heard as refused
@@ -98,7 +105,7 @@ lecom_master_owes =
 -- Love
 
 -- a task that is 00 to the card is the status
-love_task_law : (task : LoveTask) → loveOrderOf task ≡ LoveProbe → task ≡ Status
+love_task_law : (task : LoveTask) → loveOrderOf task ≡ Ok LoveProbe → task ≡ Status
 love_task_law Status e = refl
 love_task_law (LoveRead place) e = cc
 love_task_law (LoveWrite place value) e = cc
@@ -108,7 +115,7 @@ love_asks_law : (q : LoveRequest) → Askable love_master q → (card : Card) (c
 unfolding loveAskedOf
 love_asks_law q a card channel asks =
     record {
-      task = by_choice (λ (o : LoveOrder). o ≡ LoveProbe → q.task ≡ Status) _ _ _ (λ _ e. love_task_law q.task e) (λ _ e. cc)
+      task = by_choice (λ (o : Result LoveOrder LoveRefusal). o ≡ Ok LoveProbe → q.task ≡ Status) _ _ _ (λ _ e. love_task_law q.task e) (λ _ e. cc)
           (sym ((love_claims.means q a).means (loveAddress card.words)) ∙ asks.order);
       first = asks.first;
     }

@@ -1,13 +1,6 @@
 -- The claim says something: for each of its fields, and each part of a field, a wrong card or master that breaks it. Assumes nothing.
+use Rattle.std.proofs.Common.{◌≡◌, ℕ, true, false, eqb, List, [], ◌∷◌, length, get_or, Float, sym, refl, ap, ◌∙◌, arith, lit<, lit≤}
 use Prim.{tt}
-use Prim.Native.Nat.{ℕ}
-use mathlib.Core.Path.{◌≡◌, refl, sym, ap, ◌∙◌}
-use mathlib.Core.Bool.{true, false}
-use mathlib.Core.List.{List, [], ◌∷◌}
-use native.Mathlib.Omega.{arith}
-use lib.Dec.{eqb, lit≤, lit<}
-use lib.Ieee.{Float}
-use lib.ListN.{length, get_or}
 use Rattle.wire.specs.Choose.{choose}
 use Rattle.wire.specs.Buffer.{same}
 use Rattle.figures.specs.Figure.{pair_of}

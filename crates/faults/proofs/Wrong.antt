@@ -1,12 +1,6 @@
 -- Wrong entries to put to the claim, and what is computed of them: each is the entry of a card that is right but for one thing. Assumes nothing.
+use Rattle.std.proofs.Common.{◌≡◌, ℕ, zero, suc, ◌≤◌, Bool, true, false, ◌&&◌, eqb, ltb, leb, List, [], ◌∷◌, get_or, Ok, refl, subst, arith, lit<, lit≤}
 use Prim.{Unit, tt}
-use Prim.Native.Nat.{ℕ, zero, suc, ◌≤◌}
-use mathlib.Core.Path.{◌≡◌, refl, subst}
-use mathlib.Core.Bool.{Bool, true, false, ◌&&◌}
-use mathlib.Core.List.{List, [], ◌∷◌}
-use native.Mathlib.Omega.{arith}
-use lib.Dec.{leb, ltb, eqb, lit≤, lit<}
-use lib.ListN.{get_or}
 use Rattle.wire.proofs.Computed.{computed as wire-computed}
 use Rattle.figures.proofs.Computed.{computed as figures-computed}
 use Rattle.card.proofs.Computed.{computed as card-computed}
@@ -103,7 +97,7 @@ lecom_of_all = refl
 
 pub lecom_other : LecomAsks start_card lecom_register 0 → ⊥
 unfolding wire-computed figures-computed lecom_computed
-lecom_other asks = let z : LecomRead (Register 0) ≡ LecomRead (LecomProbe 0) = asks in let y : ◌≡◌ {A = ℕ} 0 1 = cc in omega (arith, y)
+lecom_other asks = let z : Ok (LecomRead (Register 0)) ≡ Ok (LecomRead (LecomProbe 0)) = asks in let y : ◌≡◌ {A = ℕ} 0 1 = cc in omega (arith, y)
 
 -- Love: 00, and 0100
 abbrev pub love_probe : List ℕ
@@ -118,7 +112,7 @@ love_asks_law = record { order = refl; first = refl }
 
 pub love_other : LoveAsks start_card love_set_point 0 → ⊥
 unfolding wire-computed figures-computed love_computed
-love_other asks = let z : LoveRead 0 ≡ Probe = asks.order in let y : ◌≡◌ {A = ℕ} 0 1 = cc in omega (arith, y)
+love_other asks = let z : Ok (LoveRead 0) ≡ Ok Probe = asks.order in let y : ◌≡◌ {A = ℕ} 0 1 = cc in omega (arith, y)
 
 -- LucidControl: the probe and the demand of channel 0
 abbrev pub lucid_probe : List ℕ

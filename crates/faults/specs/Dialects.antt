@@ -1,7 +1,7 @@
 -- For each dialect: when a frame asks for the probe of a channel, its fault reply as document 01 has it, byte by byte, and what sets that
 -- reply apart from a temperature's; and when a request to its master does. What a frame asks is by the dialect's order; nothing here rests
 -- on what the dialect makes of a reading.
-use Rattle.std.specs.Prelude.{ℕ, ◌+◌, ◌-◌, ◌%◌, ◌≤◌, ◌<◌, ◌≡◌, Bool, true, false, ◌&&◌, not, List, [], ◌∷◌, ◌++◌, eqb, get_or}
+use Rattle.std.specs.Prelude.{ℕ, ◌+◌, ◌-◌, ◌%◌, ◌≤◌, ◌<◌, ◌≡◌, Bool, true, false, ◌&&◌, not, List, [], ◌∷◌, ◌++◌, eqb, get_or, Ok}
 use Rattle.wire.specs.Sum.{sum_of}
 use Rattle.figures.specs.Figure.{pair_of}
 use Rattle.card.specs.Layout.{Card, channels}
@@ -36,7 +36,7 @@ OtherBytes a b = a.bytes ≡ b.bytes → ⊥
 
 -- LECOM: a read of the channel's probe, "Codes 60h to 63h are the probes"
 abbrev pub LecomAsks : Card → List ℕ → ℕ → Type 0
-LecomAsks card f channel = lecomAsked (lecomAddress card.words) f ≡ Read (Probe channel)
+LecomAsks card f channel = lecomAsked (lecomAddress card.words) f ≡ Ok (Read (Probe channel))
 
 -- "fault (9). .. the wire answer is NAK"; to a collective address "no bytes are sent, NAK included"
 pub record LecomFault (f : List ℕ) (r : Reply) : Type 0 where
@@ -51,7 +51,7 @@ pub record LecomApart (f : List ℕ) (r s : Reply) : Type 0 where
 
 -- Love: "For 00, probe 0"
 pub record LoveAsks (card : Card) (f : List ℕ) (channel : ℕ) : Type 0 where
-  pub order : loveAsked (loveAddress card.words) f ≡ LoveProbe
+  pub order : loveAsked (loveAddress card.words) f ≡ Ok LoveProbe
   pub first : channel ≡ 0
 
 -- "D at fault, 0, 0, 0, 0000 at fault"
@@ -87,7 +87,7 @@ pub record LucidApart (card : Card) (f : List ℕ) (channel : ℕ) (r s : Reply)
 
 -- Datalink: an Interrogate that names the channel's byte, of 1000h to 1003h
 pub record DatalinkAsks (card : Card) (f : List ℕ) (channel : ℕ) : Type 0 where
-  pub order : datalinkAsked (ia_of card) f ≡ Interrogate (address_in f) (num_in f)
+  pub order : datalinkAsked (ia_of card) f ≡ Ok (Interrogate (address_in f) (num_in f))
   pub from : address_in f ≤ 0x1000 + channel
   pub to : 0x1000 + channel < address_in f + num_in f
 

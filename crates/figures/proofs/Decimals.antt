@@ -1,16 +1,10 @@
 -- Laws of specs/Decimal.antt: figures written and read back, the size of the shortest form. Assumes nothing.
-use Prim.Native.Nat.{ℕ, zero, suc, ◌+◌, ◌-◌, ◌*◌, ◌/◌, ◌%◌, ◌^◌, ◌≤◌, ◌<◌}
-use mathlib.Core.Path.{◌≡◌, refl, sym, ap, ◌∙◌}
-use mathlib.Core.Bool.{Bool, true, false}
-use mathlib.Core.List.{List, [], ◌∷◌, ◌++◌, append_assoc, append-nil}
-use native.Mathlib.Omega.{arith}
-use native.Mathlib.Decide.{dec_lt}
-use native.Mathlib.Nat.{add-zero, not-suc-le-zero, one-le-pow, pow-suc, pow-succ', mul_assoc, mul-le-mul_right, mod-eq_of_lt, pow-le-pow_right}
-use lib.Arith.{mod-mul}
-use lib.Dec.{ltb}
-use lib.ListN.{length, get_or, set, take, drop, length-append, length-set, take-append-drop, get_or-append, drop_of_length-le}
-use lib.Seq.{drop-cons, take-set-le, drop-set-lt, get_or-set_same}
-use borrow.Author.Tests.{lt-ltb, le-ltb, ltb-true}
+use Rattle.std.proofs.Common.{ℕ, zero, suc, ◌+◌, ◌-◌, ◌*◌, ◌/◌, ◌%◌, ◌^◌, ◌≤◌, ◌<◌, ◌≡◌, refl, sym, ap, ◌∙◌, Bool, true, false, List, [], ◌∷◌, ◌++◌, append_assoc, append-nil, arith, add-zero, not-suc-le-zero, pow-suc, mul_assoc, mul-le-mul_right, mod-eq_of_lt, ltb, length, get_or, set, take, drop, length-append, length-set, take-append-drop, drop_of_length-le, drop-cons, drop-set-lt, get_or-set_same, lt-ltb, le-ltb, ltb-true}
+use Rattle.std.proofs.Math.Decide.{dec_lt}
+use Rattle.std.proofs.Math.Nat.{one-le-pow, pow-succ', pow-le-pow_right}
+use Rattle.std.proofs.Math.Arith.{mod-mul}
+use Rattle.std.proofs.Math.ListN.{get_or-append}
+use Rattle.std.proofs.lemmas.List.{take-set-le}
 use Rattle.wire.specs.Choose.{choose}
 use Rattle.wire.specs.Buffer.{put}
 use Rattle.wire.proofs.Cases.{yes as first, no as second}

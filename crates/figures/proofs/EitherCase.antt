@@ -1,10 +1,5 @@
 -- Hex characters of either case are known from what they are read as, as far as their figures are decimal; and no character of F comes before the upper-case one. Assumes nothing.
-use Prim.Native.Nat.{ℕ, ◌/◌, ◌%◌, ◌≤◌, ◌<◌}
-use mathlib.Core.Path.{◌≡◌, sym, ap, ◌∙◌}
-use mathlib.Core.Logic.{◌⊎◌, inl, inr, ⊎_elim}
-use native.Mathlib.Omega.{arith}
-use borrow.Author.Tests.{leb-false}
-use lib.Dec.{leb}
+use Rattle.std.proofs.Common.{ℕ, ◌/◌, ◌%◌, ◌≤◌, ◌<◌, ◌≡◌, sym, ap, ◌∙◌, ◌⊎◌, inl, inr, ⊎_elim, arith, leb-false, leb}
 use Rattle.wire.specs.Choose.{choose}
 use Rattle.wire.proofs.Cases.{by_choice}
 use Rattle.wire.proofs.Lengths.{between_facts}

@@ -1,16 +1,8 @@
 -- Characters are known from what they are read as: a figure's character, a byte's pair, a run of decimal figures of one length; and the
 -- shortest text of a word is the only one of its length. For masters, which make the least of several frames. Assumes nothing.
-use Prim.Native.Nat.{ℕ, ◌+◌, ◌-◌, ◌*◌, ◌/◌, ◌%◌, ◌^◌, ◌≤◌, ◌<◌}
-use mathlib.Core.Path.{◌≡◌, refl, sym, ap, ◌∙◌}
-use mathlib.Core.Bool.{Bool, true, false, not}
-use mathlib.Core.Logic.{◌⊎◌, inl, inr, ⊎_elim}
-use mathlib.Core.List.{List, [], ◌∷◌}
-use native.Mathlib.Omega.{arith}
-use native.Mathlib.Decide.{dec_lt}
-use borrow.Author.Tests.{ltb-true, ltb-false, le-ltb, eqb-true, eqb-false, ne_eqb, not-false, leb-false, le-leb, lt-leb}
-use lib.Dec.{leb, ltb, eqb}
-use lib.ListN.{length, get_or, drop}
-use lib.Seq.{drop-cons}
+use Rattle.std.proofs.Common.{Option, Some, None, ℕ, ◌+◌, ◌-◌, ◌*◌, ◌/◌, ◌%◌, ◌^◌, ◌≤◌, ◌<◌, ◌≡◌, refl, sym, ap, ◌∙◌, Bool, true, false, not, ◌⊎◌, inl, inr, ⊎_elim, List, [], ◌∷◌, arith, ltb-true, ltb-false, le-ltb, eqb-true, ne_eqb, leb-false, le-leb, leb, ltb, eqb, length, get_or, drop, drop-cons}
+use Rattle.std.proofs.Math.Decide.{dec_lt}
+use Rattle.std.proofs.lemmas.Bool.{eqb-false, not-false, lt-leb}
 use Rattle.wire.specs.Choose.{choose}
 use Rattle.wire.specs.Word.{minus}
 use Rattle.wire.proofs.Cases.{by_choice}
@@ -19,8 +11,6 @@ use Rattle.wire.proofs.Lengths.{between_facts}
 use Rattle.figures.specs.Figure.{decimal, upper_hex, base, zero_char, nine_char, upper_a, upper_f, figure_of, char_of, all_figures, pair_byte}
 use Rattle.figures.specs.Decimal.{digits, value_from, value_of, shortest}
 use Rattle.figures.specs.Signed.{half, minus_char, is_negative, with_sign, text_of, figures_of, parsed_of}
-use Rattle.figures.specs.declared.Parsed.{Parsed}
-use Rattle.figures.specs.declared.Parsed.TheVariants.{Value, Wrong}
 use Rattle.figures.proofs.Characters.{char_decimal, figure_char}
 use Rattle.figures.proofs.Decimals.{digits_length, digits_figures, value_digits, value_below, size_at_most, shortest_length, shortest_figures, value_shortest}
 use Rattle.figures.proofs.Texts.{text_negative, text_positive, text_zero, magnitude_negative, magnitude_positive}
@@ -110,10 +100,10 @@ record Figured (bound : ℕ) (negative : Bool) (s : List ℕ) (value : ℕ) : Ty
   most : value_of s ≤ bound
   signed : with_sign negative (value_of s) ≡ value
 
-no_value_law : (value : ℕ) {A : Type 0} → Wrong ≡ Value value → A
+no_value_law : (value : ℕ) {A : Type 0} → None ≡ Some value → A
 no_value_law value e = let z : ◌≡◌ {A = ℕ} 0 1 = cc in let n : ⊥ = omega arith in absurd n
 
-figured : (bound : ℕ) (negative : Bool) (s : List ℕ) (value : ℕ) → figures_of bound negative s ≡ Value value → Figured bound negative s value
+figured : (bound : ℕ) (negative : Bool) (s : List ℕ) (value : ℕ) → figures_of bound negative s ≡ Some value → Figured bound negative s value
 unfolding figures_of
 figured bound negative s value =
     by_choice P (eqb (length s) 0) _ _ (λ _. no_value_law value)
@@ -123,8 +113,8 @@ figured bound negative s value =
     let n = eqb-false (length s) 0 a in
     record { some_figure = omega arith; figures = not-false _ b; most = ltb-false bound (value_of s) c; signed = cc })))
   where
-    P : Parsed → Type 0
-    P p = p ≡ Value value → Figured bound negative s value
+    P : Option ℕ → Type 0
+    P p = p ≡ Some value → Figured bound negative s value
 
 -- a word by its sign and magnitude, and its text
 with_plus : (m : ℕ) → with_sign false m ≡ m
@@ -150,7 +140,7 @@ text_minused m p h =
     text_negative (minus m) (le-leb half (minus m) (omega arith)) ∙ rw (magnitude_negative (minus m) (omega arith), e)
 
 -- characters that were read as a word are its text, or longer
-pub text_least : (bound : ℕ) (s : List ℕ) (value : ℕ) → bound < half → parsed_of bound s ≡ Value value → (s ≡ text_of value) ⊎ (length (text_of value) < length s)
+pub text_least : (bound : ℕ) (s : List ℕ) (value : ℕ) → bound < half → parsed_of bound s ≡ Some value → (s ≡ text_of value) ⊎ (length (text_of value) < length s)
 unfolding parsed_of
 text_least bound s value low =
     by_choice P (eqb (length s) 0) _ _ (λ _. no_value_law value)
@@ -164,8 +154,8 @@ text_least bound s value low =
     Out : Type 0
     Out = (s ≡ text_of value) ⊎ (length (text_of value) < length s)
 
-    P : Parsed → Type 0
-    P p = p ≡ Value value → Out
+    P : Option ℕ → Type 0
+    P p = p ≡ Some value → Out
 
     plain : Figured bound false s value → Out
     plain f =

@@ -1,10 +1,6 @@
 -- The statement of the sheet says something: for each clause of `Exactly` a wrong sheet that breaks it. Assumes nothing.
-use Prim.Native.Nat.{ℕ, zero, suc}
-use mathlib.Core.Path.{refl}
-use mathlib.Core.List.{List, [], ◌∷◌}
-use native.Mathlib.Omega.{arith}
-use lib.Dec.{eqb}
-use borrow.Author.Tests.{eqb-false}
+use Rattle.std.proofs.Common.{ℕ, zero, suc, refl, List, [], ◌∷◌, arith, eqb}
+use Rattle.std.proofs.lemmas.Bool.{eqb-false}
 use Rattle.wire.specs.Choose.{choose}
 use Rattle.wire.specs.Length.{between}
 use Rattle.wire.specs.Sum.{byte_values}

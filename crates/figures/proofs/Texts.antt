@@ -1,21 +1,11 @@
 -- Laws of specs/Signed.antt: sign and magnitude, a word written and read back. Assumes nothing.
-use Prim.Native.Nat.{ℕ, suc, ◌+◌, ◌≤◌, ◌<◌}
-use mathlib.Core.Path.{◌≡◌, refl, ap, ◌∙◌}
-use mathlib.Core.Bool.{Bool, true, false, not}
-use mathlib.Core.List.{List, [], ◌∷◌, ◌++◌, append_assoc}
-use native.Mathlib.Omega.{arith}
-use native.Mathlib.Decide.{dec_le}
-use native.Mathlib.Numerals.{add-one}
-use lib.Dec.{ltb}
-use lib.ListN.{length, get_or, set, take, drop}
-use lib.Seq.{take-suc-set, drop-set-lt}
-use borrow.Author.Tests.{le-leb, lt-leb, leb-true, ne_eqb, lt-ltb, le-ltb}
+use Rattle.std.proofs.Common.{Option, Some, None, ℕ, suc, ◌+◌, ◌≤◌, ◌<◌, ◌≡◌, refl, ap, ◌∙◌, Bool, true, false, not, List, [], ◌∷◌, ◌++◌, append_assoc, arith, add-one, ltb, length, get_or, set, take, drop, take-suc-set, drop-set-lt, le-leb, leb-true, ne_eqb, lt-ltb, le-ltb}
+use Rattle.std.proofs.Math.Decide.{dec_le}
+use Rattle.std.proofs.lemmas.Bool.{lt-leb}
 use Rattle.wire.specs.Choose.{choose}
 use Rattle.wire.specs.Word.{word_values, minus}
 use Rattle.wire.specs.Buffer.{put}
 use Rattle.wire.proofs.Cases.{yes as first, no as second}
-use Rattle.figures.specs.declared.Parsed.{Parsed}
-use Rattle.figures.specs.declared.Parsed.TheVariants.{Value, Wrong}
 use Rattle.figures.specs.Figure.{zero_char, decimal, char_of, all_figures}
 use Rattle.figures.specs.Decimal.{digits, size_of, size_within, shortest, value_from, value_of, no_value, read_from, read_of}
 use Rattle.figures.specs.Signed.{half, minus_char, is_negative, magnitude, with_sign, longest_text, text_of, figures_of, parsed_of}
@@ -129,19 +119,19 @@ text_first w p l e = by (dec_le half w)
         shortest_first (magnitude w) (omega (arith, magnitude_positive w (omega arith))) f
 
 -- characters that are read as more than the bound are refused: as no number, or as one beyond it
-pub beyond_refused : (bound : ℕ) (s : List ℕ) (other : Parsed) → bound < read_of s
-    → Wrong ≡ choose (not (all_figures decimal s)) Wrong (choose (ltb bound (value_of s)) Wrong other)
+pub beyond_refused : (bound : ℕ) (s : List ℕ) (other : Option ℕ) → bound < read_of s
+    → None ≡ choose (not (all_figures decimal s)) None (choose (ltb bound (value_of s)) None other)
 unfolding read_of read_from value_of
 beyond_refused bound s other h = by (all_figures decimal s) refl
   where
-    by : (t : Bool) → all_figures decimal s ≡ t → Wrong ≡ choose (not (all_figures decimal s)) Wrong (choose (ltb bound (value_from 0 s)) Wrong other)
+    by : (t : Bool) → all_figures decimal s ≡ t → None ≡ choose (not (all_figures decimal s)) None (choose (ltb bound (value_from 0 s)) None other)
     by true e =
         let r : value_from 0 s ≡ choose (all_figures decimal s) (value_from 0 s) no_value = first _ _ _ _ e refl in
         second _ _ _ _ (ap not e) (first _ _ _ _ (lt-ltb bound (value_from 0 s) (omega (arith, r, h))) refl)
     by false e = first _ _ _ _ (ap not e) refl
 
 -- a number's shortest decimal is read as the number, with the sign given
-figures_shortest : (bound : ℕ) (s : Bool) (n : ℕ) → n ≤ bound → figures_of bound s (shortest n) ≡ Value (with_sign s n)
+figures_shortest : (bound : ℕ) (s : Bool) (n : ℕ) → n ≤ bound → figures_of bound s (shortest n) ≡ Some (with_sign s n)
 unfolding figures_of choose
 figures_shortest bound s n h =
     let l : length (shortest n) ≡ 0 → ⊥ = λ e. omega (arith, shortest_length n, size_positive n) in
@@ -149,16 +139,16 @@ figures_shortest bound s n h =
     simp (ne_eqb (length (shortest n)) 0 l, f, value_shortest n, le-ltb bound n h)
 
 -- a word's text is read as the word, under every bound that its magnitude keeps
-pub parse_text : (bound w : ℕ) → w < word_values → magnitude w ≤ bound → parsed_of bound (text_of w) ≡ Value w
+pub parse_text : (bound w : ℕ) → w < word_values → magnitude w ≤ bound → parsed_of bound (text_of w) ≡ Some w
 unfolding parsed_of choose
 parse_text bound w l b = by (is_negative w) refl
   where
-    by : (t : Bool) → is_negative w ≡ t → parsed_of bound (text_of w) ≡ Value w
+    by : (t : Bool) → is_negative w ≡ t → parsed_of bound (text_of w) ≡ Some w
     by true h =
         let v : with_sign true (magnitude w) ≡ w = rw h at (sign_magnitude w l) in
-        simp (text_negative w h, ne_eqb (suc (length (shortest (magnitude w)))) 0 (λ e. omega arith)) (figures_shortest bound true (magnitude w) b ∙ ap Value v)
+        simp (text_negative w h, ne_eqb (suc (length (shortest (magnitude w)))) 0 (λ e. omega arith)) (figures_shortest bound true (magnitude w) b ∙ ap Some v)
     by false h =
         let v : with_sign false (magnitude w) ≡ w = rw h at (sign_magnitude w l) in
         let n : length (shortest (magnitude w)) ≡ 0 → ⊥ = λ e. omega (arith, shortest_length (magnitude w), size_positive (magnitude w)) in
         let m : get_or (shortest (magnitude w)) 0 0 ≡ minus_char → ⊥ = λ e. omega (arith, e, shortest_figure (magnitude w)) in
-        simp (text_positive w h, ne_eqb (length (shortest (magnitude w))) 0 n, ne_eqb (get_or (shortest (magnitude w)) 0 0) minus_char m) (figures_shortest bound false (magnitude w) b ∙ ap Value v)
+        simp (text_positive w h, ne_eqb (length (shortest (magnitude w))) 0 n, ne_eqb (get_or (shortest (magnitude w)) 0 0) minus_char m) (figures_shortest bound false (magnitude w) b ∙ ap Some v)

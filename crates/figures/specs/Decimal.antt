@@ -1,5 +1,5 @@
 -- Decimal figures, most significant first: "shortest decimal", "zero is one 0" (LECOM), "four figures" (Love).
-use Rattle.std.specs.Prelude.{ℕ, zero, suc, ◌+◌, ◌*◌, ◌/◌, ◌%◌, List, [], ◌∷◌, ◌++◌, ltb}
+use Rattle.std.specs.Prelude.{ℕ, zero, suc, ◌+◌, ◌*◌, ◌/◌, ◌%◌, List, [], ◌∷◌, ◌++◌, Option, Some, None, ltb}
 use Rattle.wire.specs.Choose.{choose}
 use Rattle.figures.specs.Figure.{decimal, figure_of, char_of, all_figures}
 
@@ -41,6 +41,11 @@ read_from v s = choose (all_figures decimal s) (value_from v s) no_value
 -- what a run of characters is read as
 unfoldable pub read_of : List ℕ → ℕ
 read_of s = read_from 0 s
+
+-- a value that was read or none, as `read_of` tells it
+abbrev pub value_or_none : Option ℕ → ℕ
+value_or_none None = no_value
+value_or_none (Some v) = v
 
 -- the longest run that is read: "1 to 12 data characters" (LECOM)
 abbrev pub longest_value : ℕ

@@ -1,6 +1,6 @@
 -- Figures: what a received character means, and the character of a value. "A code is two upper-case hex characters" (LECOM);
 -- "0-9, A-F, a-f", "in data a to f mean A to F" (Love).
-use Rattle.std.specs.Prelude.{ℕ, ◌+◌, ◌-◌, ◌*◌, ◌/◌, ◌%◌, Bool, true, ◌&&◌, List, [], ◌∷◌, leb, ltb}
+use Rattle.std.specs.Prelude.{ℕ, ◌+◌, ◌-◌, ◌*◌, ◌/◌, ◌%◌, Bool, true, ◌&&◌, List, [], ◌∷◌, Option, Some, None, leb, ltb}
 use Rattle.wire.specs.Choose.{choose}
 use Rattle.wire.specs.Length.{between}
 
@@ -71,6 +71,11 @@ pair_byte limit high low =
     choose (leb limit (figure_of high)) no_byte
     (choose (leb limit (figure_of low)) no_byte
     (base * (figure_of high % base) + figure_of low % base))
+
+-- a byte that was read or none, as `pair_byte` tells it
+abbrev pub byte_or_none : Option ℕ → ℕ
+byte_or_none None = no_byte
+byte_or_none (Some b) = b
 
 -- the two upper-case characters of a byte
 unfoldable pub pair_of : ℕ → List ℕ

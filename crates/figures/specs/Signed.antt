@@ -1,9 +1,7 @@
 -- Signed words as text. "Data: an optional minus, then at least one figure; leading zeros are allowed"; "shortest decimal" (LECOM).
-use Rattle.std.specs.Prelude.{ℕ, Bool, true, false, not, List, ◌∷◌, leb, ltb, eqb, length, get_or, drop}
+use Rattle.std.specs.Prelude.{ℕ, Bool, true, false, not, List, ◌∷◌, Option, Some, None, leb, ltb, eqb, length, get_or, drop}
 use Rattle.wire.specs.Choose.{choose}
 use Rattle.wire.specs.Word.{minus}
-use Rattle.figures.specs.declared.Parsed.{Parsed}
-use Rattle.figures.specs.declared.Parsed.TheVariants.{Value, Wrong}
 use Rattle.figures.specs.Figure.{decimal, all_figures}
 use Rattle.figures.specs.Decimal.{shortest, value_of}
 
@@ -39,16 +37,16 @@ abbrev pub longest_text : ℕ
 longest_text = 11
 
 -- at least one decimal figure and nothing else, with a value of at most bound: the word with the sign given
-unfoldable pub figures_of : ℕ → Bool → List ℕ → Parsed
+unfoldable pub figures_of : ℕ → Bool → List ℕ → Option ℕ
 figures_of bound negative s =
-    choose (eqb (length s) 0) Wrong
-    (choose (not (all_figures decimal s)) Wrong
-    (choose (ltb bound (value_of s)) Wrong
-    (Value (with_sign negative (value_of s)))))
+    choose (eqb (length s) 0) None
+    (choose (not (all_figures decimal s)) None
+    (choose (ltb bound (value_of s)) None
+    (Some (with_sign negative (value_of s)))))
 
 -- an optional minus, then what `figures_of` says
-unfoldable pub parsed_of : ℕ → List ℕ → Parsed
+unfoldable pub parsed_of : ℕ → List ℕ → Option ℕ
 parsed_of bound s =
-    choose (eqb (length s) 0) Wrong
+    choose (eqb (length s) 0) None
     (choose (eqb (get_or s 0 0) minus_char) (figures_of bound true (drop 1 s))
     (figures_of bound false s))

@@ -3,15 +3,15 @@
 
 pub mod sheet;
 
-ghost use Rattle.std.specs.Prelude.{◌≡◌, ◌+◌, ◌<◌, ◌≤◌, length};
+ghost use Rattle.std.specs.Prelude.{◌≡◌, ◌+◌, ◌<◌, ◌≤◌, length, IfSome};
 ghost use Rattle.wire.specs.Choose.{choose};
 ghost use Rattle.wire.specs.Buffer.{put};
-ghost use Rattle.figures.specs.Figure.{base, char_of, all_figures, pair_byte, pair_of};
-ghost use Rattle.figures.specs.Sheet.{IsSheet, IsAlphabet};
-ghost use Rattle.figures.specs.Decimal.{digits, size_of, read_of, longest_value};
+ghost use Rattle.figures.specs.Figure.{base, char_of, all_figures, pair_byte, byte_or_none, pair_of};
+ghost use Rattle.figures.specs.Sheet.{IsAlphabet};
+ghost use Rattle.figures.specs.Decimal.{digits, size_of, no_value, read_of, value_or_none, longest_value};
 ghost use Rattle.figures.specs.Signed.{is_negative, magnitude, with_sign, longest_text, text_of, figures_of, parsed_of};
 
-use sheet::{Sheet, figure};
+use sheet::Sheet;
 
 // A figure below DECIMAL is a decimal one, below UPPER_HEX an upper-case hex one, below HEX a hex one of either case.
 pub const DECIMAL: u8 = 10;
@@ -27,8 +27,6 @@ const VALUE_BASE: u64 = DECIMAL as u64;
 
 const HEX_BASE: u8 = 16;
 
-const PAIR_BASE: u32 = HEX_BASE as u32;
-
 // A character for each value of a hex figure.
 type Alphabet = [u8; 16];
 
@@ -38,17 +36,8 @@ const ALPHABET: Alphabet = *b"0123456789ABCDEF";
 // The character of the decimal figure 0; the others follow it.
 pub const ZERO: u8 = b'0';
 
-// The mark for two characters that are no byte.
-pub const NO_BYTE: u32 = 256;
-
-// The mark for characters that are no decimal number: more than any number that is read.
-pub const NO_VALUE: u64 = u64::MAX;
-
 // The sign before a negative number's figures.
 pub const MINUS: u8 = b'-';
-
-// The words from here on are the negative numbers.
-const HALF: u32 = u32::MAX / 2 + 1;
 
 // A function, so that its rule is a promise.
 fn alphabet() -> Alphabet
@@ -66,37 +55,6 @@ pub fn figure_char(v: u8) -> u8
     characters[v as usize]
 }
 
-// Whether every character of s is a figure below limit. An early exit would take more instructions for each character.
-pub fn all_figures(sheet: &Sheet, s: &[u8], limit: u8) -> bool
-    requires { IsSheet sheet.now }
-    ensures { result ≡ all_figures limit s.now }
-{
-    let mut ok = true;
-    let mut i = 0;
-    while i < s.len() {
-        let here = figure(sheet, s[i]);
-        ok = ok & (here < limit);
-        i += 1;
-    }
-    ok
-}
-
-// The byte that two characters are, both of them figures below limit, or NO_BYTE.
-pub fn pair_byte(sheet: &Sheet, high: u8, low: u8, limit: u8) -> u32
-    requires { IsSheet sheet.now }
-    ensures { result ≡ pair_byte limit high low }
-{
-    let h = figure(sheet, high);
-    if limit <= h {
-        return NO_BYTE;
-    }
-    let l = figure(sheet, low);
-    if limit <= l {
-        return NO_BYTE;
-    }
-    PAIR_BASE * ((h % HEX_BASE) as u32) + ((l % HEX_BASE) as u32)
-}
-
 // Writes the two upper-case characters of v.
 pub fn put_pair(out: &mut [u8], at: usize, v: u8)
     requires { at + 2 ≤ length out.old }
@@ -112,9 +70,7 @@ pub fn put_digits(out: &mut [u8], at: usize, k: usize, n: u32)
     ensures { out.new ≡ put out.old at (digits k n) }
 {
     let mut v = n;
-    let mut j = k;
-    while 0 < j {
-        j -= 1;
+    for j in (0..k).rev() {
         out[at + j] = ZERO + (v % BASE) as u8;
         v /= BASE;
     }
@@ -126,6 +82,7 @@ pub fn size(n: u32) -> usize
 {
     let mut v = n;
     let mut k: usize = 1;
+    // A while loop: it goes by the value that is left, and by no count.
     while BASE <= v {
         v /= BASE;
         k += 1;
@@ -133,39 +90,17 @@ pub fn size(n: u32) -> usize
     k
 }
 
-// The value of a run of decimal figures, or NO_VALUE where a character is none.
-pub fn value(sheet: &Sheet, s: &[u8]) -> u64
-    requires sheet { IsSheet sheet.now }
-    requires s_len_bound { length s.now ≤ longest_value }
-    ensures { result ≡ read_of s.now }
-{
-    let mut v: u64 = 0;
-    let mut i = 0;
-    while i < s.len() {
-        let x = figure(sheet, s[i]);
-        if DECIMAL <= x {
-            return NO_VALUE;
-        }
-        v = v * VALUE_BASE + x as u64;
-        i += 1;
-    }
-    v
-}
-
 fn is_negative(w: u32) -> bool
     ensures { result ≡ is_negative w }
 {
-    HALF <= w
+    w.cast_signed() < 0
 }
 
 // A signed word's number without its sign.
 pub fn magnitude(w: u32) -> u32
     ensures { result ≡ magnitude w }
 {
-    if is_negative(w) {
-        return u32::MAX - w + 1;
-    }
-    w
+    w.cast_signed().unsigned_abs()
 }
 
 // One of two bytes, by the sign of a word.
@@ -185,10 +120,7 @@ pub fn with_sign(negative: bool, m: u32) -> u32
     if !negative {
         return m;
     }
-    if m == 0 {
-        return 0;
-    }
-    u32::MAX - m + 1
+    m.wrapping_neg()
 }
 
 // Writes a signed word as its shortest decimal and gives the number of characters.
@@ -207,40 +139,78 @@ pub fn put_text(out: &mut [u8], at: usize, w: u32) -> usize
     k
 }
 
-// What a signed decimal is read as.
-#[derive(Clone, Copy)]
-pub enum Parsed {
-    Value(u32),
-    Wrong,
-}
+// What is read by the sheet.
+impl Sheet {
+    // Whether every character of s is a figure below limit. An early exit, as of `all`, would take more instructions for each character.
+    pub fn all_figures(&self, s: &[u8], limit: u8) -> bool
+        ensures { result ≡ all_figures limit s.now }
+    {
+        let mut ok = true;
+        for c in s {
+            let here = self.figure(*c);
+            ok = ok & (here < limit);
+        }
+        ok
+    }
 
-// At least one decimal figure and nothing else, read with a sign.
-fn parse_figures(sheet: &Sheet, s: &[u8], negative: bool, bound: u32) -> Parsed
-    requires sheet { IsSheet sheet.now }
-    requires s_len_bound { length s.now ≤ longest_value }
-    ensures { result ≡ figures_of bound negative s.now }
-{
-    if s.len() == 0 {
-        return Parsed::Wrong;
+    // The byte that two characters are, both of them figures below limit.
+    pub fn pair_byte(&self, high: u8, low: u8, limit: u8) -> Option<u8>
+        ensures { byte_or_none result ≡ pair_byte limit high low }
+    {
+        let h = self.figure(high);
+        if limit <= h {
+            return None;
+        }
+        let l = self.figure(low);
+        if limit <= l {
+            return None;
+        }
+        Some(HEX_BASE * (h % HEX_BASE) + l % HEX_BASE)
     }
-    let v = value(sheet, s);
-    if (bound as u64) < v {
-        return Parsed::Wrong;
-    }
-    Parsed::Value(with_sign(negative, v as u32))
-}
 
-// An optional minus, then at least one decimal figure and nothing else, with a magnitude of at most bound.
-pub fn parse(sheet: &Sheet, s: &[u8], bound: u32) -> Parsed
-    requires sheet { IsSheet sheet.now }
-    requires s_len_bound { length s.now ≤ longest_value }
-    ensures { result ≡ parsed_of bound s.now }
-{
-    if s.len() == 0 {
-        return Parsed::Wrong;
+    // The value of a run of decimal figures.
+    pub fn value(&self, s: &[u8]) -> Option<u64>
+        requires s_len_bound { length s.now ≤ longest_value }
+        ensures read { value_or_none result ≡ read_of s.now }
+        ensures below { IfSome result (λ v. v < no_value) }
+    {
+        let mut v: u64 = 0;
+        for c in s {
+            let x = self.figure(*c);
+            if DECIMAL <= x {
+                return None;
+            }
+            v = v * VALUE_BASE + x as u64;
+        }
+        Some(v)
     }
-    if s[0] == MINUS {
-        return parse_figures(sheet, &s[1..], true, bound);
+
+    // At least one decimal figure and nothing else, read with a sign.
+    fn parse_figures(&self, s: &[u8], negative: bool, bound: u32) -> Option<u32>
+        requires s_len_bound { length s.now ≤ longest_value }
+        ensures { result ≡ figures_of bound negative s.now }
+    {
+        if s.len() == 0 {
+            return None;
+        }
+        let v = self.value(s)?;
+        if (bound as u64) < v {
+            return None;
+        }
+        Some(with_sign(negative, v as u32))
     }
-    parse_figures(sheet, s, false, bound)
+
+    // An optional minus, then at least one decimal figure and nothing else, with a magnitude of at most bound.
+    pub fn parse(&self, s: &[u8], bound: u32) -> Option<u32>
+        requires s_len_bound { length s.now ≤ longest_value }
+        ensures { result ≡ parsed_of bound s.now }
+    {
+        if s.len() == 0 {
+            return None;
+        }
+        if s[0] == MINUS {
+            return self.parse_figures(&s[1..], true, bound);
+        }
+        self.parse_figures(s, false, bound)
+    }
 }

@@ -3,12 +3,16 @@ ghost use Rattle.std.specs.Prelude.{◌≡◌};
 ghost use Rattle.figures.specs.Figure.{figure_of};
 ghost use Rattle.figures.specs.Sheet.{IsSheet};
 
-// An entry for each byte.
-pub type Sheet = [u8; 256];
+// An entry for each byte. A sheet is always the sheet of figures: there is no other.
+#[derive(Drop)]
+pub struct Sheet {
+    pub entries: [u8; 256],
+    pub ghost right: { IsSheet entries },
+}
 
 // Sixteen bytes to a row: 00h to 0Fh, then 10h to 1Fh, and so on; 0 to 9 stand in the row of 30h, A to F of 40h, a to f of 60h.
 // \x00 to \x0F are the figures 0 to F, \x1A to \x1F are A to F in lower case, \x20 is the mark for none.
-const FIGURES: Sheet = *b"\
+const FIGURES: [u8; 256] = *b"\
 \x20\x20\x20\x20\x20\x20\x20\x20\x20\x20\x20\x20\x20\x20\x20\x20\
 \x20\x20\x20\x20\x20\x20\x20\x20\x20\x20\x20\x20\x20\x20\x20\x20\
 \x20\x20\x20\x20\x20\x20\x20\x20\x20\x20\x20\x20\x20\x20\x20\x20\
@@ -29,15 +33,16 @@ const FIGURES: Sheet = *b"\
 
 // The sheet. The compiler builds it wherever it is taken: take it once for a frame, and lend it.
 pub fn take() -> Sheet
-    ensures { IsSheet result }
+    ensures { IsSheet result.entries }
 {
-    FIGURES
+    Sheet { entries: FIGURES }
 }
 
-// What a received byte means as a figure. Every figure of a frame or a line is read here.
-pub fn figure(sheet: &Sheet, b: u8) -> u8
-    requires { IsSheet sheet.now }
-    ensures { result ≡ figure_of b }
-{
-    sheet[b as usize]
+impl Sheet {
+    // What a received byte means as a figure. Every figure of a frame or a line is read here.
+    pub fn figure(&self, b: u8) -> u8
+        ensures { result ≡ figure_of b }
+    {
+        self.entries[b as usize]
+    }
 }

@@ -1,6 +1,6 @@
 -- The numbers that C sees tell the cases apart: a phase, a kind, a LucidControl command and what a master hears come back from their numbers,
 -- and a phase's number says what the phase does. Assumes nothing.
-use mathlib.Core.Path.{◌≡◌, refl}
+use Rattle.std.proofs.Common.{◌≡◌, refl}
 use Rattle.wire.specs.Choose.{choose}
 use Rattle.master.specs.Step.{says_of}
 use Rattle.master.specs.declared.Phase.{Phase}

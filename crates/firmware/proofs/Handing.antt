@@ -1,7 +1,5 @@
 -- An outcome that is handed over keeps its contract. Assumes nothing.
-use Prim.Native.Nat.{ℕ}
-use mathlib.Core.Path.{◌∙◌}
-use mathlib.Core.List.{List}
+use Rattle.std.proofs.Common.{ℕ, List, ◌∙◌}
 use Rattle.card.specs.Reply.{Answer, Told}
 use Rattle.firmware.specs.Lent.{Handed}
 

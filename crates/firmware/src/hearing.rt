@@ -1,12 +1,13 @@
 // What a master hears, for C.
 ghost use Rattle.std.specs.Prelude.{◌≡◌};
-ghost use Rattle.asking.specs.Hearing.{hearing_of};
+ghost use Rattle.asking.specs.Hearing.{values_in, hearing_of};
+ghost use Rattle.asking.specs.Hearing.Hearing.{Gives};
 ghost use Rattle.firmware.specs.Hearing.{HandedHearing};
 
-use asking::Heard;
+use asking::{Group, Heard, Unread};
 use card::numbers::DONE;
 
-// include/nakshvilor.h: nk_heard.
+// include/nakshvilor.h: nk_heard. Flat, with numbers for what was heard and four values by name: C reads it so.
 #[repr(C)]
 #[derive(Clone, Copy)]
 pub struct HeardInC {
@@ -45,25 +46,33 @@ fn one(number: u8, said: u8, count: usize, value: u32) -> HeardInC
     }
 }
 
+// The values of a group.
+fn many(group: Group) -> HeardInC
+    ensures { HandedHearing (Gives (values_in group)) result }
+{
+    let [first, second, third, fourth] = group.values;
+    HeardInC {
+        number: DONE,
+        said: VALUES,
+        count: group.values().len(),
+        first,
+        second,
+        third,
+        fourth,
+    }
+}
+
 // Hands over what was heard.
-pub(crate) fn hand_hearing(heard: Heard) -> HeardInC
+pub(crate) fn hand_hearing(heard: Result<Heard, Unread>) -> HeardInC
     ensures { HandedHearing (hearing_of heard) result }
 {
     match heard {
-        Heard::Value(value) => one(DONE, VALUES, 1, value),
-        Heard::Values(group) => HeardInC {
-            number: DONE,
-            said: VALUES,
-            count: asking::count_of(group),
-            first: group.first,
-            second: group.second,
-            third: group.third,
-            fourth: group.fourth,
-        },
-        Heard::Done => one(DONE, DONE_SAID, 0, 0),
-        Heard::Fault => one(DONE, FAULT, 0, 0),
-        Heard::Refused => one(DONE, REFUSED, 0, 0),
-        Heard::RefusedFor(code) => one(DONE, REFUSED, 1, code as u32),
-        Heard::Unread(number) => one(number, NOTHING, 0, 0),
+        Ok(Heard::Value(value)) => one(DONE, VALUES, 1, value),
+        Ok(Heard::Values(group)) => many(group),
+        Ok(Heard::Done) => one(DONE, DONE_SAID, 0, 0),
+        Ok(Heard::Fault) => one(DONE, FAULT, 0, 0),
+        Ok(Heard::Refused) => one(DONE, REFUSED, 0, 0),
+        Ok(Heard::RefusedFor(code)) => one(DONE, REFUSED, 1, code as u32),
+        Err(why) => one(why.number(), NOTHING, 0, 0),
     }
 }

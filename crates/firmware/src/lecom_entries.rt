@@ -1,4 +1,5 @@
 // LECOM's master for a box in C: thin, each entry with the whole contract of the one below it. include/nakshvilor.h describes them.
+// The three masters' entries have one shape, but C calls each by its own name; what is of no dialect is `hand_over` and `hand_hearing`.
 ghost use Rattle.std.specs.Prelude.{◌≡◌, length};
 ghost use Rattle.card.specs.Reply.{Told};
 ghost use Rattle.asking.specs.Hearing.{unless_outside};
@@ -19,16 +20,24 @@ const WRITE: u8 = 1;
 
 const NO_CODE: u32 = u32::MAX;
 
+#[tactic(auto, unfolding(crate::specs::Requests::lecom_task, wire::specs::Choose::choose))]
 fn task_of(task: u8, code: u32, value: u32) -> Task
     ensures { result ≡ lecom_task task code value }
 {
-    if task == READ {
-        return Task::Read(code);
+    match task {
+        READ => Task::Read(code),
+        WRITE => Task::Write(code, value),
+        _ => Task::Read(NO_CODE),
     }
-    if task == WRITE {
-        return Task::Write(code, value);
+}
+
+fn request_of(address: u32, task: u8, code: u32, value: u32) -> Request
+    ensures { result ≡ lecom_request address task code value }
+{
+    Request {
+        address,
+        task: task_of(task, code, value),
     }
-    Task::Read(NO_CODE)
 }
 
 pub fn nk_ask_lecom(
@@ -43,11 +52,7 @@ pub fn nk_ask_lecom(
         let before = frame.old in
         Told (making (askable q) (made q) (length before)) before result len.new frame.new }
 {
-    let request = Request {
-        address,
-        task: task_of(task, code, value),
-    };
-    let given = lecom_master::make(request, frame);
+    let given = lecom_master::make(request_of(address, task, code, value), frame);
     hand_over(given, len)
 }
 
@@ -55,9 +60,6 @@ pub fn nk_hear_lecom(address: u32, task: u8, code: u32, value: u32, reply: &[u8]
     ensures { let q = lecom_request address task code value in
         HandedHearing (unless_outside (askable q) (heard q reply.now)) result }
 {
-    let request = Request {
-        address,
-        task: task_of(task, code, value),
-    };
-    hearing::hand_hearing(lecom_master::read(request, reply))
+    let heard = lecom_master::read(request_of(address, task, code, value), reply);
+    hearing::hand_hearing(heard)
 }

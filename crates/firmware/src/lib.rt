@@ -1,5 +1,5 @@
-// The card's entries for firmware in C: thin, each with the whole contract of the entry below it. include/nakshvilor.h describes them;
-// crates/firmware_c exports them.
+// The card's entries for firmware in C: thin, each with the whole contract of the entry below it. include/nakshvilor.h describes them, their
+// arguments too: the tables side by side, numbers, and lengths stored in what is lent; crates/firmware_c exports them.
 #![tactic(auto)]
 
 pub mod hearing;
@@ -46,7 +46,7 @@ pub fn nk_restart(words: &mut [u32], memory: &mut [u8], ports: &mut [u8]) -> u8
     card::entries::restart_card(words, memory, ports)
 }
 
-// The number of a reading; degrees are stored where there are any.
+// The number of a reading; degrees are stored where there are any: the out argument of `nk_governor`.
 fn tell(told: Governor, degrees: &mut f32) -> u8
     ensures { (result ≡ number_of told) × (degrees.new ≡ degrees_in told degrees.old) }
 {
@@ -158,6 +158,7 @@ fn hand_over_receipt(receipt: Received, taken: &mut usize, len: &mut usize) -> u
     receipt.number
 }
 
+// An entry for each dialect, here and for quiet: C calls each by its own name.
 pub fn nk_receive_datalink(
     words: &[u32],
     memory: &[u8],
@@ -296,25 +297,19 @@ const ENDED_UNKNOWN: u8 = 5;
 
 const BYTES: u8 = 0;
 
+// Functions and not From or TryFrom: the numbers are C's, any number has a meaning, and the types are the master's.
+#[tactic(auto, unfolding(crate::specs::Phases::phase_of, wire::specs::Choose::choose))]
 fn phase_of(code: u8) -> Phase
     ensures { result ≡ phase_of code }
 {
-    if code == NEW {
-        return Phase::New;
+    match code {
+        NEW => Phase::New,
+        CHANGING => Phase::Changing,
+        ACKNOWLEDGING => Phase::Acknowledging,
+        READING => Phase::Reading,
+        ENDED_DONE => Phase::EndedDone,
+        _ => Phase::EndedUnknown,
     }
-    if code == CHANGING {
-        return Phase::Changing;
-    }
-    if code == ACKNOWLEDGING {
-        return Phase::Acknowledging;
-    }
-    if code == READING {
-        return Phase::Reading;
-    }
-    if code == ENDED_DONE {
-        return Phase::EndedDone;
-    }
-    Phase::EndedUnknown
 }
 
 fn code_of(phase: Phase) -> u8
@@ -330,13 +325,14 @@ fn code_of(phase: Phase) -> u8
     }
 }
 
+#[tactic(auto, unfolding(crate::specs::Phases::kind_of, wire::specs::Choose::choose))]
 fn kind_of(code: u8) -> Kind
     ensures { result ≡ kind_of code }
 {
-    if code == BYTES {
-        return Kind::Bytes;
+    match code {
+        BYTES => Kind::Bytes,
+        _ => Kind::Bits,
     }
-    Kind::Bits
 }
 
 pub fn nk_step(

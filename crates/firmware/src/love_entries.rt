@@ -1,4 +1,5 @@
 // Love's master for a box in C: thin, each entry with the whole contract of the one below it. include/nakshvilor.h describes them.
+// The three masters' entries have one shape, but C calls each by its own name; what is of no dialect is `hand_over` and `hand_hearing`.
 ghost use Rattle.std.specs.Prelude.{◌≡◌, length};
 ghost use Rattle.card.specs.Reply.{Told};
 ghost use Rattle.asking.specs.Hearing.{unless_outside};
@@ -21,19 +22,25 @@ const STATUS: u8 = 2;
 
 const NO_PLACE: u32 = u32::MAX;
 
+#[tactic(auto, unfolding(crate::specs::Requests::love_task, wire::specs::Choose::choose))]
 fn task_of(task: u8, place: u32, value: u32) -> Task
     ensures { result ≡ love_task task place value }
 {
-    if task == READ {
-        return Task::Read(place);
+    match task {
+        READ => Task::Read(place),
+        WRITE => Task::Write(place, value),
+        STATUS => Task::Status,
+        _ => Task::Read(NO_PLACE),
     }
-    if task == WRITE {
-        return Task::Write(place, value);
+}
+
+fn request_of(address: u32, task: u8, place: u32, value: u32) -> Request
+    ensures { result ≡ love_request address task place value }
+{
+    Request {
+        address,
+        task: task_of(task, place, value),
     }
-    if task == STATUS {
-        return Task::Status;
-    }
-    Task::Read(NO_PLACE)
 }
 
 pub fn nk_ask_love(
@@ -48,11 +55,7 @@ pub fn nk_ask_love(
         let before = frame.old in
         Told (making (askable q) (made q) (length before)) before result len.new frame.new }
 {
-    let request = Request {
-        address,
-        task: task_of(task, place, value),
-    };
-    let given = love_master::make(request, frame);
+    let given = love_master::make(request_of(address, task, place, value), frame);
     hand_over(given, len)
 }
 
@@ -60,9 +63,6 @@ pub fn nk_hear_love(address: u32, task: u8, place: u32, value: u32, reply: &[u8]
     ensures { let q = love_request address task place value in
         HandedHearing (unless_outside (askable q) (heard q reply.now)) result }
 {
-    let request = Request {
-        address,
-        task: task_of(task, place, value),
-    };
-    hearing::hand_hearing(love_master::read(request, reply))
+    let heard = love_master::read(request_of(address, task, place, value), reply);
+    hearing::hand_hearing(heard)
 }

@@ -1,4 +1,5 @@
 // LucidControl's master for a box in C: thin, each entry with the whole contract of the one below it. include/nakshvilor.h describes them.
+// The three masters' entries have one shape, but C calls each by its own name; what is of no dialect is `hand_over` and `hand_hearing`.
 ghost use Rattle.std.specs.Prelude.{◌≡◌, leb, length};
 ghost use Rattle.wire.specs.Choose.{choose};
 ghost use Rattle.card.specs.Reply.{Told};
@@ -13,7 +14,7 @@ use crate::hearing::HeardInC;
 use crate::{hand_over, hearing};
 use lucid_master::request::{Command, Request};
 
-// include/nakshvilor.h: the commands. Any other number is GetIo of no channel, which 7 refuses.
+// include/nakshvilor.h: the commands. Any other number is GetIo of no channel, which 7 refuses; so `command_of` is no TryFrom.
 const GET_IO_GROUP: u8 = 1;
 
 const SET_IO: u8 = 2;
@@ -28,39 +29,29 @@ const RESET: u8 = 6;
 
 const NO_CHANNEL: u32 = u32::MAX;
 
+#[tactic(auto, unfolding(crate::specs::Requests::command_of, wire::specs::Choose::choose))]
 fn command_of(command: u8) -> Command
     ensures { result ≡ command_of command }
 {
-    if command == GET_IO_GROUP {
-        return Command::GetIoGroup;
+    match command {
+        GET_IO_GROUP => Command::GetIoGroup,
+        SET_IO => Command::SetIo,
+        SET_IO_GROUP => Command::SetIoGroup,
+        GET_PARAM => Command::GetParam,
+        SET_PARAM => Command::SetParam,
+        RESET => Command::Reset,
+        _ => Command::GetIo,
     }
-    if command == SET_IO {
-        return Command::SetIo;
-    }
-    if command == SET_IO_GROUP {
-        return Command::SetIoGroup;
-    }
-    if command == GET_PARAM {
-        return Command::GetParam;
-    }
-    if command == SET_PARAM {
-        return Command::SetParam;
-    }
-    if command == RESET {
-        return Command::Reset;
-    }
-    Command::GetIo
 }
 
+#[tactic(auto, unfolding(wire::specs::Choose::choose))]
 fn p1_of(command: u8, p1: u32) -> u32
     ensures { result ≡ choose (leb command last_command) p1 nowhere }
 {
-    if command <= RESET {
-        return p1;
-    }
-    NO_CHANNEL
+    if command <= RESET { p1 } else { NO_CHANNEL }
 }
 
+#[tactic(auto, unfolding(crate::specs::Requests::lucid_request))]
 fn request_of(command: u8, p1: u32, p2: u32, address: u32) -> Request
     ensures { result ≡ lucid_request command p1 p2 address }
 {

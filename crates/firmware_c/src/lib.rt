@@ -1,5 +1,5 @@
 // The exports of the static library, for firmware in C: each calls crates/firmware's function of its name, with that one's contract.
-// include/nakshvilor.h describes them.
+// include/nakshvilor.h describes them, their arguments too; C links each by its own name, so receive and quiet have one for each dialect.
 #![tactic(auto)]
 
 mod lecom_entries;

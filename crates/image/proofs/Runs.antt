@@ -142,6 +142,17 @@ run_sound (suc (suc (suc (suc zero)))) h = record { among = omega arith; some = 
 run_sound (suc (suc (suc (suc (suc zero))))) h = record { among = omega arith; some = omega arith; narrow = omega arith }
 run_sound (suc (suc (suc (suc (suc (suc k)))))) h = let z : ⊥ = omega arith in absurd z
 
+-- the code's table of the runs
+module _ {items : List Run} (same : items ≡ saved_runs) (k : ℕ) where
+  pub run_here : get_or items k no_run ≡ run_at k
+  run_here = ap (λ (rs : List Run). get_or rs k no_run) same
+
+  pub run_among : k < length items → k < run_count
+  run_among h = omega (arith, ap length same, runs_length, h)
+
+  pub run_last : k ≤ length items → length items ≤ k → k ≡ run_count
+  run_last l h = omega (arith, ap length same, runs_length, l, h)
+
 in_append : (a b : List Run) → entries_in (a ++ b) ≡ entries_in a ++ entries_in b
 unfolding entries_in
 in_append [] b = refl
@@ -177,10 +188,6 @@ module _ (k : ℕ) (h : k < run_count) where
   pub rest_next : rest_of k ≡ entries_at k ++ rest_of (k + 1)
   unfolding rest_of entries_in
   rest_next = ap entries_in (drop-cons saved_runs k no_run (omega (arith, runs_length))) ∙ rw (add-one k)
-
-  -- a run's bits are its entries'
-  pub bits_run : bits_of k ≡ (run_at k).count * (run_at k).width
-  bits_run = used_run (run_at k).word (run_at k).count (run_at k).width (run_at k).bias
 
   pub used_rest : used (rest_of k) ≡ bits_of k + used (rest_of (k + 1))
   used_rest = ap used rest_next ∙ used_append (entries_at k) (rest_of (k + 1))

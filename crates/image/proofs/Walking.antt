@@ -1,12 +1,12 @@
 -- One turn of the reader over the image's runs, and the end of its walk. Assumes nothing.
-use Rattle.std.proofs.Common.{◌≡◌, ℕ, ◌+◌, ◌^◌, ◌<◌, ◌≤◌, List, ◌++◌, length, take, sym, ap, ◌∙◌, append_assoc, append-nil, zero-add, arith, length-append, length-take-le, take_all, take_at}
+use Rattle.std.proofs.Common.{◌≡◌, ℕ, ◌+◌, ◌^◌, ◌<◌, ◌≤◌, List, ◌++◌, length, take, replicate, sym, ap, ◌∙◌, append_assoc, append-nil, zero-add, arith, length-append, length-take-le, take_all, take_at}
 use Rattle.wire.specs.Buffer.{put}
 use Rattle.bits.specs.Bits.{field, Within}
-use Rattle.bits.specs.Fields.{fields}
+use Rattle.bits.specs.Fields.{width_of, fields, WithinAll}
 use Rattle.image.specs.Form.{saved_form, widths, used, padding, image_size}
 use Rattle.image.specs.Scans.{run_count, run_at, entries_at, rest_of, first_of, bits_of}
 use Rattle.image.specs.Saved.{entries_of, padding_of}
-use Rattle.image.proofs.Runs.{form_length, form_used, rest_all, read_none, read_rest, used_none, used_rest, length_run, length_fields, first_none, first_next, first_last, first_inside}
+use Rattle.image.proofs.Runs.{form_length, form_used, run_sound, widths_run, rest_all, read_none, read_rest, used_none, used_rest, length_run, length_fields, first_none, first_next, first_last, first_inside}
 
 -- the place of run k, where the runs from it on take what is left of the entries' bits
 abbrev pub At : ℕ → ℕ → Type 0
@@ -29,6 +29,14 @@ module _ (k p : ℕ) (h : k < run_count) (at : At k p) where
 
   pub next_fits : p + bits_of k < 2 ^ 64
   next_fits = omega (arith, used_rest k h, at, form_used)
+
+  pub run_within : (img : List ℕ) → length img ≡ image_size → WithinAll img p (run_at k).width (run_at k).count
+  unfolding used
+  run_within img l =
+      let r = run_at k in
+      let bits : width_of (replicate r.count r.width) ≡ bits_of k = ap width_of (sym (widths_run r.word r.count r.width r.bias)) in
+      let sound = run_sound k h in
+      record { inside = omega (arith, bits, used_rest k h, form_used, at, l); some = sound.some; narrow = sound.narrow; long = omega (arith, l); short = omega (arith, l) }
 
   length_here : (img : List ℕ) → length (fields img p (widths (entries_at k))) ≡ (run_at k).count
   length_here img = length_fields (entries_at k) img p ∙ length_run (run_at k).word (run_at k).count (run_at k).width (run_at k).bias

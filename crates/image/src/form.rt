@@ -1,7 +1,6 @@
 // The image's table. Document 01, "The saved image".
-ghost use Rattle.std.specs.Prelude.{◌≡◌, ◌<◌, length};
-ghost use Rattle.image.specs.Form.{saved_form};
-ghost use Rattle.image.specs.Scans.{run_count, run_at, first_of, bits_of};
+ghost use Rattle.std.specs.Prelude.{◌≡◌, ◌≤◌, length};
+ghost use Rattle.image.specs.Form.{entries_of_run, saved_runs, saved_form, used};
 ghost use Rattle.image.specs.Ranges.{entries_right};
 
 use card::fitness::{LOVE_DEPTH, LOVE_MOST, all_in, fit_parameters, in_range};
@@ -42,18 +41,12 @@ const FIRST_LOVE: usize = FIRST_PARAMETER + PARAMETER_COUNT;
 
 pub const ENTRIES: usize = FIRST_LOVE + LOVE_COUNT;
 
-// How many runs the form has, and the numbers of those before its last.
-pub const RUNS: usize = 6;
+// The addresses come first, an entry each.
+const IA_ENTRY: usize = 0;
 
-const IA_RUN: usize = 0;
+const LECOM_ENTRY: usize = 1;
 
-const LECOM_RUN: usize = 1;
-
-const LOVE_ADDRESS_RUN: usize = 2;
-
-const REGISTER_RUN: usize = 3;
-
-const PARAMETER_RUN: usize = 4;
+const LOVE_ADDRESS_ENTRY: usize = 2;
 
 // A run: how many words it holds, from which on, the bits of each one's field, and what is added to the word there.
 #[derive(Clone, Copy)]
@@ -65,90 +58,70 @@ pub struct Run {
 }
 
 // The image's runs, in their order.
-pub fn run_at(k: usize) -> Run
-    requires { k < run_count }
-    ensures { result ≡ run_at k }
-{
-    if k == IA_RUN {
-        return Run {
-            word: IA,
-            count: 1,
-            width: IA_WIDTH,
-            bias: 0,
-        };
-    }
-    if k == LECOM_RUN {
-        return Run {
-            word: LECOM_ADDRESS,
-            count: 1,
-            width: LECOM_WIDTH,
-            bias: 0,
-        };
-    }
-    if k == LOVE_ADDRESS_RUN {
-        return Run {
-            word: LOVE_ADDRESS,
-            count: 1,
-            width: LOVE_ADDRESS_WIDTH,
-            bias: 0,
-        };
-    }
-    if k == REGISTER_RUN {
-        return Run {
-            word: SAVED_REGISTERS,
-            count: REGISTERS,
-            width: REGISTER_WIDTH,
-            bias: REGISTER_BIAS,
-        };
-    }
-    if k == PARAMETER_RUN {
-        return Run {
-            word: SAVED_PARAMETERS,
-            count: PARAMETER_COUNT,
-            width: PARAMETER_WIDTH,
-            bias: 0,
-        };
-    }
+const RUNS: [Run; 6] = [
+    Run {
+        word: IA,
+        count: 1,
+        width: IA_WIDTH,
+        bias: 0,
+    },
+    Run {
+        word: LECOM_ADDRESS,
+        count: 1,
+        width: LECOM_WIDTH,
+        bias: 0,
+    },
+    Run {
+        word: LOVE_ADDRESS,
+        count: 1,
+        width: LOVE_ADDRESS_WIDTH,
+        bias: 0,
+    },
+    Run {
+        word: SAVED_REGISTERS,
+        count: REGISTERS,
+        width: REGISTER_WIDTH,
+        bias: REGISTER_BIAS,
+    },
+    Run {
+        word: SAVED_PARAMETERS,
+        count: PARAMETER_COUNT,
+        width: PARAMETER_WIDTH,
+        bias: 0,
+    },
     Run {
         word: LOVE,
         count: LOVE_COUNT,
         width: LOVE_WIDTH,
         bias: LOVE_BIAS,
-    }
+    },
+];
+
+pub fn runs() -> &'static [Run]
+    ensures { result.now ≡ saved_runs }
+{
+    &RUNS
 }
 
-// The number of a run's first entry.
-pub fn first_at(k: usize) -> usize
-    requires { k < run_count }
-    ensures { result ≡ first_of k }
-{
-    if k <= REGISTER_RUN {
-        return k;
+impl Run {
+    // The bits of a run of the form.
+    pub fn bits(self) -> usize
+        requires { used (entries_of_run self) ≤ used saved_form }
+        ensures { result ≡ used (entries_of_run self) }
+    {
+        self.count * self.width
     }
-    if k == PARAMETER_RUN {
-        return FIRST_PARAMETER;
-    }
-    FIRST_LOVE
-}
-
-// The bits of a run.
-pub fn bits_at(k: usize) -> usize
-    requires { k < run_count }
-    ensures { result ≡ bits_of k }
-{
-    let run = run_at(k);
-    run.count * run.width
 }
 
 // Whether every entry in whose field one of the values stands is in its range. A run with a bias is judged with it: from 0 on.
-// The addresses come first, each a run of one entry, so that the number of its run is the number of its entry too.
+#[tactic(auto, using(crate::proofs::Runs::form_length))]
 pub fn entries_right(values: &[u32]) -> bool
     requires { length values.now ≡ length saved_form }
     ensures { result ≡ entries_right saved_form values.now }
 {
-    let ia = in_range(IA, values[IA_RUN]);
-    let lecom = in_range(LECOM_ADDRESS, values[LECOM_RUN]);
-    let love = in_range(LOVE_ADDRESS, values[LOVE_ADDRESS_RUN]);
+    let ia = in_range(IA, values[IA_ENTRY]);
+    let lecom = in_range(LECOM_ADDRESS, values[LECOM_ENTRY]);
+    let love = in_range(LOVE_ADDRESS, values[LOVE_ADDRESS_ENTRY]);
     let registers = all_in(
         &values[FIRST_REGISTER..FIRST_PARAMETER],
         0,

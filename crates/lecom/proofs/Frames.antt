@@ -1,30 +1,21 @@
 -- What is known of a frame: bounds of its places, and that what it asks is sound. Assumes nothing.
+use Rattle.std.proofs.Common.{Option, Some, None, Result, Ok, Err, ◌≡◌, ℕ, suc, ◌+◌, ◌<◌, ◌≤◌, Bool, true, false, ◌&&◌, eqb, ltb, leb, List, [], ◌∷◌, length, get_or, drop, bit_xor, refl, arith, drop-cons, ltb-true, eqb-true, leb-true}
 use Prim.{tt}
-use Prim.Native.Nat.{ℕ, suc, ◌+◌, ◌≤◌, ◌<◌}
-use mathlib.Core.Path.{◌≡◌, refl}
-use mathlib.Core.Bool.{Bool, true, false, ◌&&◌}
-use mathlib.Core.List.{List, [], ◌∷◌}
-use native.Mathlib.Omega.{arith}
-use borrow.Author.Tests.{leb-true, eqb-true, ltb-true}
-use lib.Bits.{bit_xor}
-use lib.Dec.{leb, ltb, eqb}
-use lib.ListN.{length, get_or, drop}
-use lib.Seq.{drop-cons}
 use Rattle.wire.specs.Choose.{choose}
 use Rattle.wire.specs.Word.{minus}
 use Rattle.wire.proofs.Tests.{and_true}
 use Rattle.wire.proofs.Cases.{by_choice, no}
-use Rattle.figures.specs.Figure.{decimal, upper_hex, no_byte, figure_of, all_figures}
-use Rattle.figures.specs.declared.Parsed.{Parsed}
-use Rattle.figures.specs.declared.Parsed.TheVariants.{Value, Wrong}
-use Rattle.figures.proofs.Characters.{pair_at_most}
+use Rattle.figures.specs.Figure.{decimal, figure_of, all_figures}
 use Rattle.card.specs.Numbers.{frame_form, check_character, range_unknown, value_outside, read_only}
 use Rattle.card.specs.Fitness.{in_span, register_most}
 use Rattle.lecom.specs.Form.{length_right, start_at, standard_hex, extended_hex, data_least, data_most, closing, last_register, first_probe, last_probe, activate, store, named_by}
-use Rattle.lecom.specs.Frame.{figures_right, tens_in, ones_in, is_write, code_at, is_extended, hex_at, code_end, size_right, end_right, pair_in, xor_from, code_number, subcode_right, named_in, data_of, data_read, value_in, ordered, asked}
+use Rattle.lecom.specs.Frame.{figures_right, tens_in, ones_in, is_write, code_at, is_extended, hex_at, code_end, size_right, end_right, xor_from, code_number, subcode_right, named_in, data_of, data_read, value_in, ordering, ordered, asked}
 use Rattle.lecom.specs.Stages.{Has, Sound, order_here}
 use Rattle.lecom.specs.declared.frame.Order.{Order}
-use Rattle.lecom.specs.declared.frame.Order.TheVariants.{Silent, Refused}
+use Rattle.lecom.specs.declared.frame.Order.TheVariants.{Read, Write}
+use Rattle.lecom.specs.declared.frame.Refusal.{Refusal}
+use Rattle.lecom.specs.declared.frame.Refusal.TheVariants.{Silent, Refused}
+use Rattle.lecom.specs.declared.form.Named.{Named}
 use Rattle.lecom.proofs.Values.{RangedIn, parsed_ranged}
 
 -- Places
@@ -71,11 +62,6 @@ standard_code f h = rw h
 pub standard_hex_law : (f : List ℕ) → is_extended f ≡ false → hex_at f ≡ code_at f
 unfolding hex_at choose
 standard_hex_law f h = rw h
-
--- two hex characters are a byte, or the mark for none
-pub pair_most : (f : List ℕ) (at : ℕ) → pair_in f at ≤ no_byte
-unfolding pair_in
-pair_most f at = pair_at_most upper_hex (get_or f at 0) (get_or f (at + 1) 0)
 
 -- a frame of the right size holds its whole code
 pub size_holds : (f : List ℕ) → size_right f ≡ true → code_end f + 1 ≤ length f
@@ -126,10 +112,10 @@ frame_has f = by_choice Has (subcode_right f) _ _ (λ _. named_has (code_number 
 -- What is written
 
 -- the value of a write's data is in range; so is the 0 that stands for none
-value_range : (p : Parsed) → RangedIn p → in_span (minus register_most) register_most (value_in p) ≡ true
+value_range : (p : Option ℕ) → RangedIn p → in_span (minus register_most) register_most (value_in p) ≡ true
 unfolding value_in in_span choose
-value_range Wrong h = refl
-value_range (Value value) h = (h value refl).within
+value_range None h = refl
+value_range (Some value) h = (h value refl).within
 
 data_range : (f : List ℕ) → in_span (minus register_most) register_most (value_in (data_read f)) ≡ true
 unfolding data_read
@@ -138,11 +124,16 @@ data_range f = value_range (data_read f) (parsed_ranged (data_of f))
 -- What is asked
 
 module _ (f : List ℕ) where
-  or_silent : (t : Bool) (o : Order) (number : ℕ) → (t ≡ true → Sound f o) → Sound f (choose t o (Silent number))
-  or_silent t o number h = by_choice (Sound f) t o (Silent number) h (λ _. tt)
+  or_silent : (t : Bool) (o : Result Order Refusal) (number : ℕ) → (t ≡ true → Sound f o) → Sound f (choose t o (Err (Silent number)))
+  or_silent t o number h = by_choice (Sound f) t o (Err (Silent number)) h (λ _. tt)
 
-  or_refused : (t : Bool) (o : Order) (number : ℕ) → (number ≡ range_unknown → code_end f ≤ length f) → (t ≡ true → Sound f o) → Sound f (choose t o (Refused number))
-  or_refused t o number k h = by_choice (Sound f) t o (Refused number) h (λ _. k)
+  or_refused : (t : Bool) (o : Result Order Refusal) (number : ℕ) → (number ≡ range_unknown → code_end f ≤ length f) → (t ≡ true → Sound f o) → Sound f (choose t o (Err (Refused number)))
+  or_refused t o number k h = by_choice (Sound f) t o (Err (Refused number)) h (λ _. k)
+
+  ordered_sound : code_end f ≤ length f → (named : Option Named) → Has named
+      → Sound f (ordering (λ (n : Named). choose (is_write f) (Write n (value_in (data_read f))) (Read n)) named)
+  ordered_sound k None h = λ _. k
+  ordered_sound k (Some named) h = by_choice (λ (o : Order). Sound f (Ok o)) (is_write f) _ _ (λ _. (h, data_range f)) (λ _. (k, h))
 
   here_sound : Sound f (order_here f)
   unfolding order_here ordered
@@ -156,7 +147,7 @@ module _ (f : List ℕ) where
       (λ _. or_refused _ _ range_unknown (λ e. k)
       (λ _. or_refused _ _ read_only (λ e. omega arith)
       (λ _. or_refused _ _ value_outside (λ e. omega arith)
-      (λ _. by_choice (Sound f) (is_write f) _ _ (λ _. (frame_has f, data_range f)) (λ _. (k, frame_has f)))))))))
+      (λ _. ordered_sound k (named_in f) (frame_has f))))))))
 
   pub asked_sound : (address : ℕ) → Sound f (asked address f)
   unfolding asked order_here
@@ -164,11 +155,11 @@ module _ (f : List ℕ) where
       or_silent (length_right (length f)) _ _ (λ _. or_silent _ _ _ (λ _. or_silent _ _ _ (λ _. or_silent _ _ _ (λ _. here_sound))))
 
 -- a frame of another length asks nothing, with no byte sent
-pub other_length : (address : ℕ) (f : List ℕ) → length_right (length f) ≡ false → Silent frame_form ≡ asked address f
+pub other_length : (address : ℕ) (f : List ℕ) → length_right (length f) ≡ false → Err (Silent frame_form) ≡ asked address f
 unfolding asked
 other_length address f h = no _ _ _ _ h refl
 
 -- a frame of a wrong size or end is refused for its form
-pub wrong_size_or_end : (f : List ℕ) → (size_right f && end_right f) ≡ false → Refused frame_form ≡ order_here f
+pub wrong_size_or_end : (f : List ℕ) → (size_right f && end_right f) ≡ false → Err (Refused frame_form) ≡ order_here f
 unfolding order_here
-wrong_size_or_end f h = by_choice (λ (o : Order). Refused frame_form ≡ o) (size_right f) _ _ (λ s. no _ _ _ _ (rw s at h) refl) (λ _. refl)
+wrong_size_or_end f h = by_choice (λ (o : Result Order Refusal). Err (Refused frame_form) ≡ o) (size_right f) _ _ (λ s. no _ _ _ _ (rw s at h) refl) (λ _. refl)

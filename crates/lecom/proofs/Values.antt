@@ -1,12 +1,6 @@
 -- What data are read as: a word in the range of a register. And a code is known from what it names. Assumes nothing.
-use Prim.Native.Nat.{ℕ, ◌+◌, ◌≤◌, ◌<◌}
-use mathlib.Core.Path.{◌≡◌, refl, sym, ap, ◌∙◌}
-use mathlib.Core.Bool.{Bool, true, false, ◌&&◌, not}
-use mathlib.Core.List.{List}
-use native.Mathlib.Omega.{arith}
-use borrow.Author.Tests.{le-leb, leb-true, eqb-true, eqb-false, ltb-false}
-use lib.Dec.{leb, ltb, eqb}
-use lib.ListN.{length, get_or, drop}
+use Rattle.std.proofs.Common.{Option, Some, None, ◌≡◌, ℕ, ◌+◌, ◌<◌, ◌≤◌, Bool, true, false, not, ◌&&◌, eqb, ltb, leb, List, length, get_or, drop, sym, refl, ap, ◌∙◌, arith, ltb-false, eqb-true, le-leb, leb-true}
+use Rattle.std.proofs.lemmas.Bool.{eqb-false}
 use Rattle.wire.specs.Word.{minus, word_values}
 use Rattle.wire.proofs.Cases.{by_choice}
 use Rattle.wire.proofs.Tests.{and_true, or_true_right, either}
@@ -14,13 +8,11 @@ use Rattle.wire.specs.Choose.{choose}
 use Rattle.figures.specs.Figure.{decimal, all_figures}
 use Rattle.figures.specs.Decimal.{value_of}
 use Rattle.figures.specs.Signed.{minus_char, magnitude, with_sign, figures_of, parsed_of}
-use Rattle.figures.specs.declared.Parsed.{Parsed}
-use Rattle.figures.specs.declared.Parsed.TheVariants.{Value, Wrong}
 use Rattle.figures.proofs.Texts.{magnitude_negative, magnitude_positive}
 use Rattle.card.specs.Fitness.{in_span, register_most}
 use Rattle.lecom.specs.Form.{last_register, first_probe, last_probe, activate, store, named_by, known}
 use Rattle.lecom.specs.declared.form.Named.{Named}
-use Rattle.lecom.specs.declared.form.Named.TheVariants.{Register, Probe, Activate, Store, Nothing}
+use Rattle.lecom.specs.declared.form.Named.TheVariants.{Register, Probe, Activate, Store}
 
 -- a word in the range of a register
 pub record Ranged (value : ℕ) : Type 0 where
@@ -51,10 +43,10 @@ span_magnitude value r =
     (λ b. let k : value ≤ register_most = leb-true value register_most b in omega (arith, magnitude_positive value (omega arith)))
 
 -- what data were read as, if as a value
-abbrev pub RangedIn : Parsed → Type 0
-RangedIn p = (value : ℕ) → p ≡ Value value → Ranged value
+abbrev pub RangedIn : Option ℕ → Type 0
+RangedIn p = (value : ℕ) → p ≡ Some value → Ranged value
 
-wrong_ranged : RangedIn Wrong
+wrong_ranged : RangedIn None
 wrong_ranged value e = let z : ◌≡◌ {A = ℕ} 0 1 = cc in let n : ⊥ = omega (arith, z) in absurd n
 
 figures_ranged : (negative : Bool) (s : List ℕ) → RangedIn (figures_of register_most negative s)
@@ -74,12 +66,12 @@ parsed_ranged s =
     (λ _. by_choice RangedIn (eqb (get_or s 0 0) minus_char) _ _ (λ _. figures_ranged true (drop 1 s)) (λ _. figures_ranged false s))
 
 -- the code of what is named
-abbrev code_of_named : Named → ℕ
-code_of_named (Register k) = k
-code_of_named (Probe channel) = first_probe + channel
-code_of_named Activate = activate
-code_of_named Store = store
-code_of_named Nothing = 0
+abbrev code_of_named : Option Named → ℕ
+code_of_named (Some (Register k)) = k
+code_of_named (Some (Probe channel)) = first_probe + channel
+code_of_named (Some Activate) = activate
+code_of_named (Some Store) = store
+code_of_named None = 0
 
 code_back : (code : ℕ) → known (named_by code) ≡ true → code_of_named (named_by code) ≡ code
 unfolding named_by
@@ -90,7 +82,7 @@ code_back code =
     (λ _. by_choice P (eqb code store) _ _ (λ a _. sym (eqb-true code store a))
     (λ _ h. let z : ◌≡◌ {A = ℕ} 0 1 = cc in let n : ⊥ = omega (arith, z) in absurd n))))
   where
-    P : Named → Type 0
+    P : Option Named → Type 0
     P named = known named ≡ true → code_of_named named ≡ code
 
 -- two codes that name the same are the same

@@ -1,15 +1,9 @@
 -- LECOM's receiver hands over every frame that is taken as a read or a write. Assumes nothing.
+use Rattle.std.proofs.Common.{Option, None, Result, Ok, Err, ◌≡◌, ℕ, zero, suc, ◌+◌, ◌-◌, ◌<◌, ◌≤◌, Bool, true, false, eqb, ltb, List, [], ◌∷◌, ◌++◌, length, get_or, drop, sym, refl, ap, ◌∙◌, subst, le_of_suc-le-suc, arith, length-append, length-drop, length-take, get_or-drop, get_or-take, ltb-false, ltb-true, lt-ltb, eq-eqb, ne_eqb, eqb-true}
+use Rattle.std.proofs.lemmas.Bool.{eqb-false, not-false}
+use Rattle.std.proofs.Math.ListN.{get_or-append}
+use Rattle.std.proofs.Math.Seq.{get_or-append_seam, append_snoc}
 use Prim.{tt}
-use mathlib.Core.Path.{◌≡◌, refl, sym, ap, ◌∙◌, subst}
-use mathlib.Core.Bool.{Bool, true, false}
-use mathlib.Core.List.{List, [], ◌∷◌, ◌++◌}
-use Prim.Native.Nat.{ℕ, zero, suc, ◌+◌, ◌-◌, ◌≤◌, ◌<◌}
-use native.Mathlib.Nat.{le_of_suc-le-suc}
-use native.Mathlib.Omega.{arith}
-use borrow.Author.Tests.{ltb-true, ltb-false, eqb-true, eqb-false, lt-ltb, eq-eqb, ne_eqb, not-false}
-use lib.Dec.{ltb, eqb}
-use lib.ListN.{length, drop, get_or, length-append, length-take, length-drop, get_or-append}
-use lib.Seq.{get_or-take, get_or-drop, get_or-append_seam, append_snoc}
 use Rattle.wire.specs.Choose.{choose}
 use Rattle.wire.specs.Buffer.{part}
 use Rattle.wire.proofs.Cases.{by_choice}
@@ -20,15 +14,14 @@ use Rattle.receiver.specs.Line.{Whole}
 use Rattle.receiver.proofs.Reach.{whole, snoc}
 use Rattle.figures.specs.Figure.{decimal, upper_hex, none, all_figures}
 use Rattle.figures.specs.Signed.{parsed_of, figures_of, minus_char}
-use Rattle.figures.specs.declared.Parsed.{Parsed}
-use Rattle.figures.specs.declared.Parsed.TheVariants.{Wrong}
 use Rattle.figures.proofs.Characters.{all_above, part_above}
 use Rattle.card.specs.Fitness.{register_most}
 use Rattle.lecom.specs.Form.{shortest, longest, stx, etx, eot, enq, extended_mark, tens_at, start_at, closing}
 use Rattle.lecom.specs.Frame.{figures_right, is_write, code_at, is_extended, hex_at, code_end, size_right, end_right, code_right, named_in, data_of, data_read, value_right, data_right, asked}
 use Rattle.lecom.specs.Receiver.{step, held_behind_stx, held_behind_eot}
 use Rattle.lecom.specs.declared.frame.Order.{Order}
-use Rattle.lecom.specs.declared.frame.Order.TheVariants.{Silent, Refused, Read, Write}
+use Rattle.lecom.specs.declared.frame.Refusal.{Refusal}
+use Rattle.lecom.specs.declared.frame.Refusal.TheVariants.{Silent, Refused}
 use Rattle.lecom.proofs.Frames.{bounds, size_holds, write_holds, read_start, write_start}
 use Rattle.lecom.proofs.Passing.{Obeyed, order_passed}
 use Rattle.lecom.proofs.Receiver.{ends_in, last_cons, held_begun, among_begun, next_begun, held_leads}
@@ -71,21 +64,21 @@ part_plain f a e i p l u n =
     subst (λ (x : ℕ). enq < x) g (p (i - a) k)
 
 -- data that are read as a value
-right : (t : Bool) (x : Parsed) → (choose t Wrong x ≡ Wrong → ⊥) → (t ≡ false) × (x ≡ Wrong → ⊥)
+right : (t : Bool) (x : Option ℕ) → (choose t None x ≡ None → ⊥) → (t ≡ false) × (x ≡ None → ⊥)
 unfolding choose
 right true x d = absurd (d refl)
 right false x d = (refl, d)
 
-figures_plain : (bound : ℕ) (negative : Bool) (s : List ℕ) → (figures_of bound negative s ≡ Wrong → ⊥) → Plain s
+figures_plain : (bound : ℕ) (negative : Bool) (s : List ℕ) → (figures_of bound negative s ≡ None → ⊥) → Plain s
 unfolding figures_of
 figures_plain bound negative s d =
     let a = right _ _ d in
     let b = right _ _ a.1 in
     all_plain decimal s (omega arith) (not-false (all_figures decimal s) b.0)
 
-parsed_plain : (bound : ℕ) (s : List ℕ) → (parsed_of bound s ≡ Wrong → ⊥) → Plain s
+parsed_plain : (bound : ℕ) (s : List ℕ) → (parsed_of bound s ≡ None → ⊥) → Plain s
 unfolding parsed_of
-parsed_plain bound s d = by_choice (λ (x : Parsed). (x ≡ Wrong → ⊥) → Plain s) (eqb (get_or s 0 0) minus_char) _ _ (λ t k. signed s t (figures_plain bound true (drop 1 s) k)) (λ _ k. figures_plain bound false s k) (right _ _ d).1
+parsed_plain bound s d = by_choice (λ (x : Option ℕ). (x ≡ None → ⊥) → Plain s) (eqb (get_or s 0 0) minus_char) _ _ (λ t k. signed s t (figures_plain bound true (drop 1 s) k)) (λ _ k. figures_plain bound false s k) (right _ _ d).1
   where
     signed : (l : List ℕ) → eqb (get_or l 0 0) minus_char ≡ true → Plain (drop 1 l) → Plain l
     signed [] t p i h = let z : ⊥ = omega arith in absurd z
@@ -264,14 +257,13 @@ whole_taken (x ∷ t ∷ o ∷ s ∷ r) k = go (is_write (x ∷ t ∷ o ∷ s �
         subst (λ (q : List ℕ). Whole step (x ∷ q)) (sym e) (whole_read x p b (subst (λ (q : List ℕ). Taken (x ∷ q)) e k) (subst (λ (q : List ℕ). is_write (x ∷ q) ≡ false) e w))
 
 -- an order that neither is silent nor refuses
-order_obeyed : (o : Order) → ((n : ℕ) → o ≡ Silent n → ⊥) → ((n : ℕ) → o ≡ Refused n → ⊥) → Obeyed o
-order_obeyed (Silent number) u r = u number refl
-order_obeyed (Refused number) u r = r number refl
-order_obeyed (Read named) u r = tt
-order_obeyed (Write named value) u r = tt
+order_obeyed : (o : Result Order Refusal) → ((n : ℕ) → o ≡ Err (Silent n) → ⊥) → ((n : ℕ) → o ≡ Err (Refused n) → ⊥) → Obeyed o
+order_obeyed (Err (Silent number)) u r = u number refl
+order_obeyed (Err (Refused number)) u r = r number refl
+order_obeyed (Ok order) u r = tt
 
 -- every frame that LECOM takes as a read or a write
-pub whole_asked : (address : ℕ) (f : List ℕ) → ((n : ℕ) → asked address f ≡ Silent n → ⊥) → ((n : ℕ) → asked address f ≡ Refused n → ⊥) → Whole step f
+pub whole_asked : (address : ℕ) (f : List ℕ) → ((n : ℕ) → asked address f ≡ Err (Silent n) → ⊥) → ((n : ℕ) → asked address f ≡ Err (Refused n) → ⊥) → Whole step f
 whole_asked address f u r =
     let p = order_passed address f (order_obeyed (asked address f) u r) in
     whole_taken f (record { long = between_facts shortest longest (length f) p.long; first = p.starts; figures = p.figured; sized = p.sized; ended = p.ended; coded = p.coded; given = p.valued })

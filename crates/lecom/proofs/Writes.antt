@@ -1,21 +1,16 @@
 -- An answer that is written piece by piece, and sent unless the address is collective. Assumes nothing.
-use Prim.Native.Nat.{ℕ, ◌+◌, ◌-◌, ◌≤◌, ◌<◌}
-use mathlib.Core.Path.{◌≡◌, refl, ap, ◌∙◌}
-use mathlib.Core.Bool.{Bool, true, false}
-use mathlib.Core.List.{List, [], ◌∷◌, ◌++◌, append_assoc}
-use native.Mathlib.Omega.{arith}
-use lib.ListN.{length, set, length-take, length-drop}
+use Rattle.std.proofs.Common.{◌≡◌, ℕ, ◌+◌, ◌-◌, ◌<◌, ◌≤◌, Bool, true, false, List, [], ◌∷◌, ◌++◌, length, set, sym, refl, ap, ◌∙◌, ap₂, append_assoc, arith, length-append, length-drop, length-take}
 use Rattle.wire.specs.Buffer.{put, part}
 use Rattle.wire.proofs.Cases.{yes, no}
-use Rattle.wire.proofs.Buffers.{overlay_rest}
+use Rattle.wire.proofs.Buffers.{overlay_rest, put_set, part_append, part_front, take_put, part_put}
 use Rattle.figures.specs.Signed.{text_of, longest_text}
 use Rattle.figures.proofs.Texts.{text_length}
 use Rattle.card.specs.Numbers.{answered, done}
 use Rattle.card.specs.Reply.{Wrote, Told, GaveWords, leaving}
-use Rattle.card.proofs.Replies.{wrote_none, wrote_one, wrote_set, wrote_put, told_as, gave_leaving}
+use Rattle.card.proofs.Replies.{wrote_none, wrote_one, wrote_as, wrote_put, told_as, gave_leaving}
 use Rattle.lecom.specs.Form.{stx, etx, extended_hex}
 use Rattle.lecom.specs.Frame.{collective, code_at, code_end, code_of, bcc_of}
-use Rattle.lecom.specs.Answer.{value_body, value_bytes, refusal_bytes, quietly, done_by, refused_by}
+use Rattle.lecom.specs.Answer.{closed, value_body, value_bytes, refusal_bytes, quietly, done_by, refused_by}
 use Rattle.lecom.proofs.Frames.{bounds}
 
 -- a code is as long as its places are apart, at most "!" and six characters
@@ -39,21 +34,37 @@ wrote_code f out at end out' a e h l p =
 pub text_most : (value : ℕ) {k : ℕ} → k ≡ length (text_of value) → k ≤ longest_text
 text_most value e = omega (arith, e, text_length value)
 
--- what stands after STX is what the BCC goes over
-bcc_over : (f out : List ℕ) (value last : ℕ) (out' : List ℕ) → Wrote (stx ∷ value_body f value) out last out' → part out' 1 last ≡ value_body f value
-bcc_over f out value last out' w =
-    let e : last - 1 ≡ length (value_body f value) = omega (arith, w.measured) in
-    rw (e, w.written) (overlay_rest stx (value_body f value) out)
+pub closed_length : (code : List ℕ) (value : ℕ) → length (closed code value) ≡ length (text_of value) + 2
+unfolding closed
+closed_length code value = simp length-append (omega arith)
 
--- a value's k characters, ETX and the BCC written after STX and code
-pub wrote_value : (f out : List ℕ) (value at k bcc : ℕ) (out₁ out₂ : List ℕ) → Wrote (stx ∷ code_of f) out at out₁ → k ≡ length (text_of value) → out₂ ≡ put out₁ at (text_of value)
-    → bcc ≡ bcc_of (part (set out₂ (at + k) etx) 1 (at + k + 1)) → at + k + 1 < length out → Wrote (value_bytes f value) out (at + k + 1 + 1) (set (set out₂ (at + k) etx) (at + k + 1) bcc)
-unfolding value_bytes value_body
-wrote_value f out value at k bcc out₁ out₂ w n p e h =
-    let v : Wrote ((stx ∷ code_of f) ++ text_of value) out (at + k) out₂ = rw (n, p) (wrote_put (stx ∷ code_of f) out w (text_of value)) in
-    let x : Wrote (stx ∷ value_body f value) out (at + k + 1) (set out₂ (at + k) etx) = rw append_assoc at (wrote_set ((stx ∷ code_of f) ++ text_of value) out v etx (omega arith)) in
-    let y : bcc ≡ bcc_of (value_body f value) = e ∙ ap bcc_of (bcc_over f out value (at + k + 1) _ x) in
-    rw y (wrote_set (stx ∷ value_body f value) out x (bcc_of (value_body f value)) h)
+-- a value's k characters, ETX and the BCC written behind a code
+pub put_closed : (d : List ℕ) (at text value k check : ℕ) (d₁ : List ℕ) → at ≤ text → k ≡ length (text_of value) → d₁ ≡ put d text (text_of value) → text + k + 1 < length d
+    → check ≡ bcc_of (part (set d₁ (text + k) etx) at (text + k + 1)) → set (set d₁ (text + k) etx) (text + k + 1) check ≡ put d text (closed (part d at text) value)
+unfolding closed
+put_closed d at text value k check d₁ l n e h c =
+    let t = text_of value in
+    let b = t ++ (etx ∷ []) in
+    let a : text + k ≡ text + length t = omega (arith, n) in
+    let m : text + k + 1 ≡ text + length b = simp length-append (omega (arith, n)) in
+    let x : set d₁ (text + k) etx ≡ put d text b = rw (e, a) (put_set d text t etx (omega (arith, n))) in
+    let code : part (put d text b) at text ≡ part d at text = part_front (put d text b) d text (take_put d text b (omega (arith, m)) text (omega arith)) at text l (omega arith) in
+    let data' : part (put d text b) text (text + k + 1) ≡ b = ap (part (put d text b) text) m ∙ part_put d text b (omega (arith, m)) in
+    let over : part (put d text b) at (text + k + 1) ≡ part d at text ++ b = sym (part_append (put d text b) at text (text + k + 1) l (omega arith)) ∙ ap₂ (λ (p q : List ℕ). p ++ q) code data' in
+    let y : check ≡ bcc_of (part d at text ++ b) = c ∙ ap bcc_of (ap (λ (p : List ℕ). part p at (text + k + 1)) x ∙ over) in
+    ap (λ (p : List ℕ). set p (text + k + 1) check) x ∙ ap (λ (i : ℕ). set (put d text b) i check) m ∙ ap (set (put d text b) (text + length b)) y
+    ∙ put_set d text b (bcc_of (part d at text ++ b)) (omega (arith, m))
+
+-- the same behind STX and the code as received
+pub wrote_value : (f out out₁ : List ℕ) (value at : ℕ) {len : ℕ} {out₂ : List ℕ} → Wrote (stx ∷ code_of f) out at out₁ → len ≡ at + length (closed (part out₁ 1 at) value)
+    → out₂ ≡ put out₁ at (closed (part out₁ 1 at) value) → Wrote (value_bytes f value) out len out₂
+unfolding value_bytes value_body closed
+wrote_value f out out₁ value at w n p =
+    let e : at - 1 ≡ length (code_of f) = omega (arith, w.measured) in
+    let c : part out₁ 1 at ≡ code_of f = rw (e, w.written) (overlay_rest stx (code_of f) out) in
+    let b = text_of value ++ (etx ∷ []) in
+    let same : (stx ∷ code_of f) ++ (b ++ (bcc_of (code_of f ++ b) ∷ [])) ≡ (stx ∷ (code_of f ++ b)) ++ (bcc_of (code_of f ++ b) ∷ []) = sym (append_assoc (stx ∷ code_of f) b _) in
+    wrote_as _ _ same (rw (n, p, c) (wrote_put (stx ∷ code_of f) out w (b ++ (bcc_of (code_of f ++ b) ∷ []))))
 
 -- a frame to a collective address: no byte
 pub done_quiet : (quiet : Bool) (bytes out : List ℕ) → quiet ≡ true → Told (done_by quiet bytes) out done 0 out

@@ -1,5 +1,5 @@
 -- What the card does with a LECOM order, and what it sends. Document 01, "LECOM".
-use Rattle.std.specs.Prelude.{ℕ, ◌+◌, Bool, ◌&&◌, not, List, [], ◌∷◌, ◌++◌, eqb, get_or, set}
+use Rattle.std.specs.Prelude.{ℕ, ◌+◌, Bool, ◌&&◌, not, List, [], ◌∷◌, ◌++◌, Result, Ok, Err, eqb, get_or, set}
 use Rattle.wire.specs.Choose.{choose}
 use Rattle.wire.specs.Buffer.{part, put}
 use Rattle.figures.specs.Signed.{text_of}
@@ -12,9 +12,15 @@ use Rattle.card.specs.Reply.{Reply, WordsReply, Answer, on_words, leaving, shell
 use Rattle.lecom.specs.Form.{stx, etx, eot, ack, nak}
 use Rattle.lecom.specs.Frame.{collective, is_write, code_of, bcc_of, asked}
 use Rattle.lecom.specs.declared.form.Named.{Named}
-use Rattle.lecom.specs.declared.form.Named.TheVariants.{Register, Probe, Activate, Store, Nothing}
+use Rattle.lecom.specs.declared.form.Named.TheVariants.{Register, Probe, Activate, Store}
 use Rattle.lecom.specs.declared.frame.Order.{Order}
-use Rattle.lecom.specs.declared.frame.Order.TheVariants.{Silent, Refused, Read, Write}
+use Rattle.lecom.specs.declared.frame.Order.TheVariants.{Read, Write}
+use Rattle.lecom.specs.declared.frame.Refusal.{Refusal}
+use Rattle.lecom.specs.declared.frame.Refusal.TheVariants.{Silent, Refused}
+
+-- what comes behind a code with a value: the shortest decimal, ETX, and the BCC from the code's first character through ETX
+unfoldable pub closed : List ℕ → ℕ → List ℕ
+closed code value = (text_of value ++ (etx ∷ [])) ++ (bcc_of (code ++ (text_of value ++ (etx ∷ []))) ∷ [])
 
 -- what a read's BCC goes over: code, shortest decimal, ETX
 unfoldable pub value_body : List ℕ → ℕ → List ℕ
@@ -44,6 +50,11 @@ done_by quiet bytes = choose quiet (quietly done) (record { number = answered; b
 unfoldable pub refused_by : List ℕ → ℕ → Answer
 refused_by f number = choose (collective f) (quietly number) (record { number = number; bytes = refusal_bytes f number })
 
+-- what a frame that asks nothing is answered by
+abbrev pub declined : List ℕ → Refusal → Answer
+declined f (Silent number) = quietly number
+declined f (Refused number) = refused_by f number
+
 -- what a probe's reading is answered by: a temperature in tenths, or "fault (9)"
 unfoldable pub probe_answer : List ℕ → Reading → Answer
 probe_answer f (Temperature tenths) = done_by (collective f) (value_bytes f tenths.0)
@@ -55,7 +66,6 @@ read_answer words memory f (Register k) = done_by (collective f) (value_bytes f 
 read_answer words memory f (Probe channel) = probe_answer f (reading_of (get_or memory channel 0))
 read_answer words memory f Activate = done_by (collective f) (value_bytes f 0)
 read_answer words memory f Store = done_by (collective f) (value_bytes f 0)
-read_answer words memory f Nothing = refused_by f range_unknown
 
 -- ACTIVATE "copies buffer to operational", STORE "operational to saved"
 unfoldable pub activated : List ℕ → List ℕ
@@ -70,14 +80,12 @@ written words (Register k) value = set words (buffer_at + k) value
 written words (Probe channel) value = words
 written words Activate value = choose (eqb value 0) words (activated words)
 written words Store value = choose (eqb value 0) words (stored words)
-written words Nothing value = words
 
 -- what the card does with each order
-unfoldable pub obeyed : List ℕ → List ℕ → List ℕ → Order → WordsReply
-obeyed words memory f (Silent number) = leaving words (quietly number)
-obeyed words memory f (Refused number) = leaving words (refused_by f number)
-obeyed words memory f (Read named) = leaving words (read_answer words memory f named)
-obeyed words memory f (Write named value) = leaving (written words named value) (done_by (collective f) (ack ∷ []))
+unfoldable pub obeyed : List ℕ → List ℕ → List ℕ → Result Order Refusal → WordsReply
+obeyed words memory f (Err refusal) = leaving words (declined f refusal)
+obeyed words memory f (Ok (Read named)) = leaving words (read_answer words memory f named)
+obeyed words memory f (Ok (Write named value)) = leaving (written words named value) (done_by (collective f) (ack ∷ []))
 
 -- the unit's address
 unfoldable pub address_of : List ℕ → ℕ

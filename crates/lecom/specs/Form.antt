@@ -1,10 +1,10 @@
 -- The form of a LECOM frame: its lengths, characters, places and sizes, and what a code names. Document 01, "LECOM", with source document 001.
 -- Read: EOT, two figures, code, ENQ. Write: EOT, two figures, STX, code, 1 to 12 data characters, ETX, BCC.
-use Rattle.std.specs.Prelude.{ℕ, ◌-◌, Bool, true, false, ◌&&◌, ◌||◌, leb, eqb}
+use Rattle.std.specs.Prelude.{ℕ, ◌-◌, Bool, true, false, ◌&&◌, ◌||◌, Option, Some, None, leb, eqb}
 use Rattle.wire.specs.Choose.{choose}
 use Rattle.wire.specs.Length.{between}
 use Rattle.lecom.specs.declared.form.Named.{Named}
-use Rattle.lecom.specs.declared.form.Named.TheVariants.{Register, Probe, Activate, Store, Nothing}
+use Rattle.lecom.specs.declared.form.Named.TheVariants.{Register, Probe, Activate, Store}
 
 -- "LECOM 6 and 25": the shortest and the longest frame
 abbrev pub shortest : ℕ
@@ -93,37 +93,34 @@ abbrev pub store : ℕ
 store = 0x68
 
 -- what a code names, from its number: a register, a channel's probe, ACTIVATE, STORE or nothing. All else of a code rests on this
-unfoldable pub named_by : ℕ → Named
+unfoldable pub named_by : ℕ → Option Named
 named_by code =
-    choose (leb code last_register) (Register code)
-    (choose (leb first_probe code && leb code last_probe) (Probe (code - first_probe))
-    (choose (eqb code activate) Activate
-    (choose (eqb code store) Store
-    Nothing)))
+    choose (leb code last_register) (Some (Register code))
+    (choose (leb first_probe code && leb code last_probe) (Some (Probe (code - first_probe)))
+    (choose (eqb code activate) (Some Activate)
+    (choose (eqb code store) (Some Store)
+    None)))
 
 -- it names something
-abbrev pub known : Named → Bool
-known (Register k) = true
-known (Probe channel) = true
-known Activate = true
-known Store = true
-known Nothing = false
+abbrev pub known : Option Named → Bool
+known (Some named) = true
+known None = false
 
 -- a probe is "read-only"
-abbrev pub writable : Named → Bool
-writable (Register k) = true
-writable (Probe channel) = false
-writable Activate = true
-writable Store = true
-writable Nothing = false
+abbrev pub writable : Option Named → Bool
+writable (Some (Register k)) = true
+writable (Some (Probe channel)) = false
+writable (Some Activate) = true
+writable (Some Store) = true
+writable None = false
 
 -- "67h and 68h take a data value of 0 or 1", all else every value
-abbrev pub free : Named → Bool
-free (Register k) = true
-free (Probe channel) = true
-free Activate = false
-free Store = false
-free Nothing = true
+abbrev pub free : Option Named → Bool
+free (Some (Register k)) = true
+free (Some (Probe channel)) = true
+free (Some Activate) = false
+free (Some Store) = false
+free None = true
 
-abbrev pub takes : Named → ℕ → Bool
+abbrev pub takes : Option Named → ℕ → Bool
 takes named value = free named || leb value 1

@@ -1,20 +1,19 @@
 -- What a LECOM frame asks. Document 01, "LECOM", with source document 001.
-use Rattle.std.specs.Prelude.{ℕ, ◌+◌, ◌-◌, ◌*◌, ◌/◌, Bool, true, false, ◌&&◌, ◌||◌, List, [], ◌∷◌, leb, eqb, length, get_or}
+use Rattle.std.specs.Prelude.{ℕ, ◌+◌, ◌-◌, ◌*◌, ◌/◌, Bool, true, false, ◌&&◌, ◌||◌, List, [], ◌∷◌, Option, Some, None, Result, Ok, Err, leb, eqb, length, get_or}
 use Rattle.std.specs.Int.Bits.{bit_xor}
 use Rattle.wire.specs.Choose.{choose}
 use Rattle.wire.specs.Buffer.{part}
 use Rattle.wire.specs.Sum.{byte_values}
 use Rattle.figures.specs.Figure.{decimal, upper_hex, figure_of, all_figures, pair_byte}
 use Rattle.figures.specs.Signed.{parsed_of}
-use Rattle.figures.specs.declared.Parsed.{Parsed}
-use Rattle.figures.specs.declared.Parsed.TheVariants.{Value, Wrong}
 use Rattle.card.specs.Numbers.{foreign_address, frame_form, check_character, range_unknown, value_outside, read_only}
 use Rattle.card.specs.Fitness.{register_most}
 use Rattle.lecom.specs.Form.{length_right, stx, etx, eot, enq, extended_mark, tens_at, ones_at, start_at, standard_hex, extended_hex, standard_at, subcode_at, data_least, data_most, closing, named_by, known, writable, takes}
 use Rattle.lecom.specs.declared.form.Named.{Named}
-use Rattle.lecom.specs.declared.form.Named.TheVariants.{Nothing}
 use Rattle.lecom.specs.declared.frame.Order.{Order}
-use Rattle.lecom.specs.declared.frame.Order.TheVariants.{Silent, Refused, Read, Write}
+use Rattle.lecom.specs.declared.frame.Order.TheVariants.{Read, Write}
+use Rattle.lecom.specs.declared.frame.Refusal.{Refusal}
+use Rattle.lecom.specs.declared.frame.Refusal.TheVariants.{Silent, Refused}
 
 -- both address figures are figures
 unfoldable pub figures_right : List ℕ → Bool
@@ -103,8 +102,8 @@ unfoldable pub subcode_right : List ℕ → Bool
 subcode_right f = choose (is_extended f) (eqb (pair_in f (hex_at f + subcode_at)) 0) true
 
 -- what a frame's code names; "a subcode other than 00 is an unknown code"
-unfoldable pub named_in : List ℕ → Named
-named_in f = choose (subcode_right f) (named_by (code_number f)) Nothing
+unfoldable pub named_in : List ℕ → Option Named
+named_in f = choose (subcode_right f) (named_by (code_number f)) None
 
 -- "code": it names something
 unfoldable pub code_known : List ℕ → Bool
@@ -118,37 +117,42 @@ write_right f = choose (is_write f) (writable (named_in f)) true
 unfoldable pub data_of : List ℕ → List ℕ
 data_of f = part f (code_end f) (length f - closing)
 
-unfoldable pub data_read : List ℕ → Parsed
+unfoldable pub data_read : List ℕ → Option ℕ
 data_read f = parsed_of register_most (data_of f)
 
 -- a value that what is named takes
-unfoldable pub value_right : Named → Parsed → Bool
-value_right named Wrong = false
-value_right named (Value value) = takes named value
+unfoldable pub value_right : Option Named → Option ℕ → Bool
+value_right named None = false
+value_right named (Some value) = takes named value
 
 -- the value that was read, if one was
-unfoldable pub value_in : Parsed → ℕ
-value_in Wrong = 0
-value_in (Value value) = value
+unfoldable pub value_in : Option ℕ → ℕ
+value_in None = 0
+value_in (Some value) = value
 
 -- "data": a write's data are a value that what it names takes
 unfoldable pub data_right : List ℕ → Bool
 data_right f = choose (is_write f) (value_right (named_in f) (data_read f)) true
 
+-- the order for what a code names; a code that names nothing is refused
+abbrev pub ordering : (Named → Order) → Option Named → Result Order Refusal
+ordering order None = Err (Refused range_unknown)
+ordering order (Some named) = Ok (order named)
+
 -- what a frame that passed asks
-unfoldable pub ordered : List ℕ → Order
-ordered f = choose (is_write f) (Write (named_in f) (value_in (data_read f))) (Read (named_in f))
+unfoldable pub ordered : List ℕ → Result Order Refusal
+ordered f = ordering (λ (named : Named). choose (is_write f) (Write named (value_in (data_read f))) (Read named)) (named_in f)
 
 -- a test, the number that refuses a frame where it fails, and what comes after it: `silently` with no byte on the wire
-abbrev pub silently : Bool → ℕ → Order → Order
-silently test number rest = choose test rest (Silent number)
+abbrev pub silently : Bool → ℕ → Result Order Refusal → Result Order Refusal
+silently test number rest = choose test rest (Err (Silent number))
 
-abbrev pub unless : Bool → ℕ → Order → Order
-unless test number rest = choose test rest (Refused number)
+abbrev pub unless : Bool → ℕ → Result Order Refusal → Result Order Refusal
+unless test number rest = choose test rest (Err (Refused number))
 
 -- what a frame asks of the unit at an address. "Order: EOT and figures (3, silent); address (2); layout (3); BCC (4); code (6); read-only (8);
 -- data (7); fault (9)": the fault is found in reading the probe
-unfoldable pub asked : ℕ → List ℕ → Order
+unfoldable pub asked : ℕ → List ℕ → Result Order Refusal
 asked address f =
     silently (length_right (length f)) frame_form
     (silently (eqb (get_or f 0 0) eot) frame_form

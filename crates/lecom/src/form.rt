@@ -1,16 +1,25 @@
 // The dialect's type: its shortest and longest frame and the rest of its form, for frame checks and receivers; and what a code names.
 // Document 01, "LECOM".
-ghost use Rattle.std.specs.Prelude.{◌≡◌};
-ghost use Rattle.lecom.specs.Form.{length_right, named_by, known, writable, free, takes};
+ghost use Rattle.std.specs.Prelude.{◌≡◌, Some};
+ghost use Rattle.lecom.specs.Form.{shortest, longest, named_by, writable, free, takes};
+
+use receiver::Frames;
 
 #[derive(Clone, Copy)]
 pub struct Lecom {}
 
-impl Lecom {
-    // "Numbers returned", last lines.
-    pub const SHORTEST: usize = 6;
+// "Numbers returned", last lines.
+impl Frames for Lecom {
+    const SHORTEST: usize = 6;
 
-    pub const LONGEST: usize = 25;
+    const LONGEST: usize = 25;
+
+    ghost SHORTEST = { shortest };
+
+    ghost LONGEST = { longest };
+}
+
+impl Lecom {
     // Control characters: source document 001, section 7.
     pub const STX: u8 = 0x02;
 
@@ -55,84 +64,55 @@ impl Lecom {
     pub const ACTIVATE: u32 = 0x67;
 
     pub const STORE: u32 = 0x68;
-
-    // Whether a frame may be n bytes long.
-    pub(crate) fn fits(n: usize) -> bool
-        ensures { result ≡ length_right n }
-    {
-        (Lecom::SHORTEST <= n) & (n <= Lecom::LONGEST)
-    }
 }
 
-// What a code names: a register, the probe of a channel, one of the two commands, or nothing.
+// What a code names: a register, the probe of a channel, or one of the two commands.
 #[derive(Clone, Copy)]
 pub enum Named {
     Register(u32),
     Probe(u32),
     Activate,
     Store,
-    Nothing,
 }
 
-// What the code of a number names. Nothing else in the card decides this.
-pub fn named_by(code: u32) -> Named
+// What the code of a number names, if it names something. Nothing else in the card decides this.
+pub fn named_by(code: u32) -> Option<Named>
     ensures { result ≡ named_by code }
 {
     if code <= Lecom::LAST_REGISTER {
-        return Named::Register(code);
+        return Some(Named::Register(code));
     }
     if (Lecom::FIRST_PROBE <= code) & (code <= Lecom::LAST_PROBE) {
-        return Named::Probe(code - Lecom::FIRST_PROBE);
+        return Some(Named::Probe(code - Lecom::FIRST_PROBE));
     }
     if code == Lecom::ACTIVATE {
-        return Named::Activate;
+        return Some(Named::Activate);
     }
     if code == Lecom::STORE {
-        return Named::Store;
+        return Some(Named::Store);
     }
-    Named::Nothing
+    None
 }
 
-pub fn is_known(named: Named) -> bool
-    ensures { result ≡ known named }
-{
-    match named {
-        Named::Register(_) => true,
-        Named::Probe(_) => true,
-        Named::Activate => true,
-        Named::Store => true,
-        Named::Nothing => false,
+impl Named {
+    // Whether a write may name it: a probe is read-only.
+    pub fn is_writable(self) -> bool
+        ensures { result ≡ writable (Some self) }
+    {
+        !matches!(self, Named::Probe(_))
     }
-}
 
-pub fn is_writable(named: Named) -> bool
-    ensures { result ≡ writable named }
-{
-    match named {
-        Named::Register(_) => true,
-        Named::Probe(_) => false,
-        Named::Activate => true,
-        Named::Store => true,
-        Named::Nothing => false,
+    // Whether it takes every value, and not 0 and 1 alone.
+    fn is_free(self) -> bool
+        ensures { result ≡ free (Some self) }
+    {
+        matches!(self, Named::Register(_) | Named::Probe(_))
     }
-}
 
-// Whether what is named takes every value, and not 0 and 1 alone.
-fn is_free(named: Named) -> bool
-    ensures { result ≡ free named }
-{
-    match named {
-        Named::Register(_) => true,
-        Named::Probe(_) => true,
-        Named::Activate => false,
-        Named::Store => false,
-        Named::Nothing => true,
+    // Whether it takes a value.
+    pub fn takes(self, value: u32) -> bool
+        ensures { result ≡ takes (Some self) value }
+    {
+        self.is_free() | (value <= 1)
     }
-}
-
-// Whether what is named takes a value.
-pub fn is_taken(named: Named, value: u32) -> bool
-    ensures { result ≡ takes named value }
-{
-    is_free(named) | (value <= 1)
 }

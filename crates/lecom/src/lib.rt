@@ -15,6 +15,8 @@ use card::layout::LECOM_ADDRESS;
 use card::numbers::{ANSWERED, FRAME_FORM};
 use card::{Outcome, ROOM_LEAST};
 use form::Lecom;
+use frame::Frame;
+use receiver::Frames;
 
 // A LECOM frame f reaches the card; the answer goes to the front of out.
 pub fn lecom(words: &mut [u32], memory: &[u8], ports: &[u8], f: &[u8], out: &mut [u8]) -> Outcome
@@ -35,7 +37,9 @@ pub fn lecom(words: &mut [u32], memory: &[u8], ports: &[u8], f: &[u8], out: &mut
             len: 0,
         };
     }
-    let outline = frame::outline_of(&sheet, f);
-    let order = frame::order_of(&sheet, words[LECOM_ADDRESS], f, outline);
-    answer::obey(words, memory, f, outline, out, order)
+    let frame = Frame::new(&sheet, f);
+    match frame.order_of(&sheet, words[LECOM_ADDRESS]) {
+        Ok(order) => answer::obey(words, memory, frame, out, order),
+        Err(refusal) => answer::decline(frame, out, refusal),
+    }
 }

@@ -1,12 +1,5 @@
 -- What a unit makes of a read is told by the characters of its code, whatever the unit's address. Assumes nothing.
-use Prim.Native.Nat.{ℕ, ◌+◌, ◌/◌, ◌%◌, ◌≤◌}
-use mathlib.Core.Path.{◌≡◌, refl, sym, ◌∙◌}
-use mathlib.Core.Bool.{Bool, true, false, ◌&&◌, ◌||◌, not}
-use mathlib.Core.List.{List, [], ◌∷◌}
-use native.Mathlib.Omega.{arith}
-use borrow.Author.Tests.{eqb-true, eq-eqb}
-use lib.Dec.{eqb}
-use lib.ListN.{length}
+use Rattle.std.proofs.Common.{Option, Some, None, Err, ◌≡◌, ℕ, ◌+◌, ◌/◌, ◌%◌, ◌≤◌, Bool, true, false, not, ◌&&◌, ◌||◌, eqb, List, [], ◌∷◌, length, sym, refl, ◌∙◌, arith, eq-eqb, eqb-true}
 use Rattle.wire.specs.Choose.{choose}
 use Rattle.wire.specs.Length.{between}
 use Rattle.wire.proofs.Cases.{by_choice}
@@ -16,11 +9,11 @@ use Rattle.figures.proofs.Characters.{pair_figures, all_append}
 use Rattle.card.specs.Numbers.{frame_form, range_unknown}
 use Rattle.card.specs.Fitness.{lecom_most}
 use Rattle.lecom.specs.Form.{length_right, stx, eot, extended_mark, standard_hex, extended_hex, known}
-use Rattle.lecom.specs.Frame.{collective, reaches, is_write, code_at, is_extended, hex_at, code_end, size_right, end_right, code_right, bcc_right, pair_in, quad_in, code_number, subcode_right, named_in, code_known, write_right, data_right, ordered, asked}
+use Rattle.lecom.specs.Frame.{collective, reaches, is_write, code_at, is_extended, hex_at, code_end, size_right, end_right, code_right, bcc_right, pair_in, quad_in, code_number, subcode_right, named_in, code_known, write_right, data_right, ordering, ordered, asked}
 use Rattle.lecom.specs.Stages.{order_here}
 use Rattle.lecom.specs.declared.form.Named.{Named}
-use Rattle.lecom.specs.declared.form.Named.TheVariants.{Nothing}
-use Rattle.lecom.specs.declared.frame.Order.TheVariants.{Refused, Read}
+use Rattle.lecom.specs.declared.frame.Order.TheVariants.{Read}
+use Rattle.lecom.specs.declared.frame.Refusal.TheVariants.{Refused}
 use Rattle.lecom_master.specs.Heard.{read_of, is_unknown}
 use Rattle.lecom_master.specs.Stages.{code_refused, standard_unknown, extended_unknown}
 use Rattle.lecom_master.proofs.Requests.{figures_right_law, tens, ones}
@@ -42,22 +35,22 @@ hex_pairs a b c d e g =
     ∙ rw (all_append upper_hex (c ∷ d ∷ []) (e ∷ g ∷ []), pair_figures upper_hex a b, pair_figures upper_hex c d, pair_figures upper_hex e g, not_or p (q || r), not_or q r)
 
 -- a code with another subcode names nothing
-other_subcode : (s : Bool) (named : Named) → choose s (not (known named)) true ≡ not (known (choose s named Nothing))
+other_subcode : (s : Bool) (named : Option Named) → choose s (not (known named)) true ≡ not (known (choose s named None))
 unfolding choose
 other_subcode true named = refl
 other_subcode false named = refl
 
 -- a read that reached the unit is refused for its code exactly if its layout is right and it names nothing
 read_here : (f : List ℕ) → is_write f ≡ false → is_unknown (order_here f) ≡ (size_right f && (end_right f && (code_right f && not (code_known f))))
-unfolding order_here bcc_right write_right data_right ordered is_unknown choose
-read_here f w = rw w (by (size_right f) (end_right f) (code_right f) (code_known f))
+unfolding order_here bcc_right code_known write_right data_right ordered is_unknown choose
+read_here f w = rw w (by (size_right f) (end_right f) (code_right f) (named_in f))
   where
-    by : (s e c k : Bool) → is_unknown (choose s (choose e (choose c (choose k (Read (named_in f)) (Refused range_unknown)) (Refused frame_form)) (Refused frame_form)) (Refused frame_form)) ≡ (s && (e && (c && not k)))
-    by false e c k = refl
-    by true false c k = refl
-    by true true false k = refl
-    by true true true false = refl
-    by true true true true = refl
+    by : (s e c : Bool) (n : Option Named) → is_unknown (choose s (choose e (choose c (choose (known n) (ordering Read n) (Err (Refused range_unknown))) (Err (Refused frame_form))) (Err (Refused frame_form))) (Err (Refused frame_form))) ≡ (s && (e && (c && not (known n))))
+    by false e c n = refl
+    by true false c n = refl
+    by true true false n = refl
+    by true true true None = refl
+    by true true true (Some named) = refl
 
 module _ (address : ℕ) (most : address ≤ lecom_most) where
   -- the unit at the address that a frame begins with is reached

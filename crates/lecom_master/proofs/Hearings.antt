@@ -1,17 +1,10 @@
 -- What is heard in a reply: to a read, its length is that of an answer, and its data are a value; to a write, one byte. Assumes nothing.
-use Prim.Native.Nat.{ℕ, ◌+◌, ◌-◌, ◌<◌}
-use mathlib.Core.Path.{◌≡◌, refl, sym, ◌∙◌}
-use mathlib.Core.List.{List, [], ◌∷◌}
-use native.Mathlib.Omega.{arith}
-use borrow.Author.Tests.{eq-eqb, ne_eqb}
-use lib.ListN.{length, get_or, length-take, length-drop}
+use Rattle.std.proofs.Common.{Option, Some, None, ◌≡◌, ℕ, ◌+◌, ◌-◌, ◌<◌, List, [], ◌∷◌, length, get_or, sym, refl, ◌∙◌, arith, length-drop, length-take, eq-eqb, ne_eqb}
 use Rattle.wire.specs.Choose.{choose}
 use Rattle.wire.specs.Buffer.{part, same}
 use Rattle.wire.proofs.Pieces.{same_one}
 use Rattle.wire.proofs.Cases.{yes, no, by_choice}
 use Rattle.figures.specs.Signed.{longest_text, parsed_of}
-use Rattle.figures.specs.declared.Parsed.{Parsed}
-use Rattle.figures.specs.declared.Parsed.TheVariants.{Value, Wrong}
 use Rattle.figures.proofs.Texts.{text_length}
 use Rattle.card.specs.Numbers.{frame_form}
 use Rattle.lecom.specs.Form.{ack, closing, data_least, named_by}
@@ -26,7 +19,7 @@ pub short_heard : (code : ℕ) (r : List ℕ) → length r < data_at + data_leas
 unfolding heard_value data_read parsed_of
 short_heard code r h =
     let n : length (part r data_at (length r - closing)) ≡ 0 = simp (length-take, length-drop) (omega arith) in
-    let e : data_read r ≡ Wrong = sym (yes _ _ _ _ (eq-eqb (length (part r data_at (length r - closing))) 0 n) refl) in
+    let e : data_read r ≡ None = sym (yes _ _ _ _ (eq-eqb (length (part r data_at (length r - closing))) 0 n) refl) in
     rw e
 
 -- a reply of another length than the answer
@@ -35,10 +28,10 @@ unfolding against
 apart back size r answer n = sym (no _ _ _ _ (ne_eqb (length r) (length answer) n) refl)
 
 -- a reply longer than every answer
-pub long_heard : (code : ℕ) (r : List ℕ) (p : Parsed) → data_at + longest_text + closing < length r → Unread frame_form ≡ heard_value code r p
+pub long_heard : (code : ℕ) (r : List ℕ) (p : Option ℕ) → data_at + longest_text + closing < length r → Unread frame_form ≡ heard_value code r p
 unfolding heard_value heard_by answer_bytes choose
-long_heard code r Wrong h = refl
-long_heard code r (Value value) h =
+long_heard code r None h = refl
+long_heard code r (Some value) h =
     let a = answer_bytes code value in
     let e : against check_size check_size r a ≡ frame_form = apart check_size check_size r a (λ n. omega (arith, n, checked_length code value, text_length value)) in
     by_choice (λ (x : Hearing). Unread frame_form ≡ x) (answerable (named_by code) value) _ _ (λ _. rw e) (λ _. refl)

@@ -1,15 +1,8 @@
 -- What is known of a request that 7 does not refuse, and its bytes written piece by piece. Assumes nothing.
-use Prim.Native.Nat.{ℕ, ◌+◌, ◌/◌, ◌%◌, ◌≤◌, ◌<◌}
-use mathlib.Core.Path.{◌≡◌, refl, ap, ◌∙◌}
-use mathlib.Core.Bool.{true, ◌&&◌}
-use mathlib.Core.List.{List, [], ◌∷◌, ◌++◌, append_assoc}
-use native.Mathlib.Omega.{arith}
-use borrow.Author.Tests.{leb-true, eqb-true}
-use lib.Dec.{leb, eqb}
-use lib.ListN.{length, set, length-append}
+use Rattle.std.proofs.Common.{Option, Some, None, is_some, not, Bool, false, ◌≡◌, ℕ, ◌+◌, ◌/◌, ◌%◌, ◌<◌, ◌≤◌, true, ◌&&◌, eqb, leb, List, [], ◌∷◌, ◌++◌, length, sym, refl, ap, ◌∙◌, append_assoc, arith, length-append, eqb-true, leb-true}
 use Rattle.wire.specs.Buffer.{put, part}
 use Rattle.wire.specs.Sum.{byte_values}
-use Rattle.wire.proofs.Buffers.{put_set, part_put, put_put}
+use Rattle.wire.proofs.Buffers.{part_put, put_put}
 use Rattle.wire.proofs.Cases.{by_choice}
 use Rattle.wire.proofs.Tests.{and_true, either}
 use Rattle.figures.specs.Figure.{decimal, char_of, pair_of}
@@ -17,9 +10,9 @@ use Rattle.figures.specs.Signed.{text_of}
 use Rattle.figures.proofs.Characters.{figure_char, pair_all}
 use Rattle.card.specs.Fitness.{lecom_least, lecom_most, lecom_right}
 use Rattle.lecom.specs.Form.{etx, eot, standard_hex, last_register, first_probe, last_probe, activate, store, named_by, known, writable}
+use Rattle.lecom.specs.Answer.{closed}
 use Rattle.lecom.specs.Frame.{figures_right, tens_in, ones_in, bcc_of}
 use Rattle.lecom.specs.declared.form.Named.{Named}
-use Rattle.lecom.specs.declared.form.Named.TheVariants.{Register, Probe, Activate, Store, Nothing}
 use Rattle.lecom_master.specs.Request.{is_collective, address_right, task_right, askable, body, checked}
 use Rattle.lecom_master.specs.declared.request.Task.TheVariants.{Read, Write}
 use Rattle.lecom_master.specs.declared.request.Request.{Request}
@@ -36,16 +29,25 @@ known_byte code =
     (λ _. by_choice P (eqb code store) _ _ (λ a _. omega (arith, eqb-true code store a))
     (λ _ h. let z : ◌≡◌ {A = ℕ} 0 1 = cc in let n : ⊥ = omega arith in absurd n))))
   where
-    P : Named → Type 0
+    P : Option Named → Type 0
     P named = known named ≡ true → code < byte_values
 
 -- what may be written is something
-pub writable_known : (named : Named) → writable named ≡ true → known named ≡ true
-writable_known (Register k) h = refl
-writable_known (Probe channel) h = refl
-writable_known Activate h = refl
-writable_known Store h = refl
-writable_known Nothing h = h
+pub writable_known : (named : Option Named) → writable named ≡ true → known named ≡ true
+writable_known (Some named) h = refl
+writable_known None h = h
+
+-- a code names something, or nothing
+pub some_known : (named : Option Named) → is_some named ≡ known named
+some_known (Some named) = refl
+some_known None = refl
+
+pub none_known : (named : Option Named) {r : Bool} → is_some named ≡ not r → r ≡ not (known named)
+none_known named {r = r} e = flip r (sym (some_known named) ∙ e)
+  where
+    flip : (r : Bool) {t : Bool} → t ≡ not r → r ≡ not t
+    flip true e = sym (ap not e)
+    flip false e = sym (ap not e)
 
 pub read_byte : (code : ℕ) → task_right (Read code) ≡ true → code < byte_values
 unfolding task_right
@@ -93,18 +95,12 @@ pub checked_length : (code value : ℕ) → length (checked code value) ≡ 4 + 
 unfolding checked body pair_of
 checked_length code value = simp length-append (omega arith)
 
--- a code's two characters, a text of k characters, ETX and BCC, one after the other
-pub put_checked : (d : List ℕ) (at code value k bcc : ℕ) (d₁ d₂ : List ℕ) → d₁ ≡ put d at (pair_of code) → k ≡ length (text_of value) → d₂ ≡ put d₁ (at + standard_hex) (text_of value)
-    → bcc ≡ bcc_of (part (set d₂ (at + standard_hex + k) etx) at (at + standard_hex + k + 1)) → at + standard_hex + k + 1 < length d
-    → set (set d₂ (at + standard_hex + k) etx) (at + standard_hex + k + 1) bcc ≡ put d at (checked code value)
-unfolding checked body pair_of
-put_checked d at code value k bcc d₁ d₂ e₁ ek e₂ eb h =
+-- a code's two characters, and the data behind them
+pub put_checked : (d : List ℕ) (at code value : ℕ) {d₁ d₂ : List ℕ} → at + standard_hex ≤ length d → d₁ ≡ put d at (pair_of code) → d₂ ≡ put d₁ (at + standard_hex) (closed (part d₁ at (at + standard_hex)) value)
+    → d₂ ≡ put d at (checked code value)
+unfolding checked body closed pair_of
+put_checked d at code value l e₁ e₂ =
     let p = pair_of code in
-    let t = text_of value in
-    let b = p ++ (t ++ (etx ∷ [])) in
-    let a : d₂ ≡ put d at (p ++ t) = e₂ ∙ ap (λ (x : List ℕ). put x (at + standard_hex) t) e₁ ∙ put_put d at p t (omega arith) in
-    let n : at + standard_hex + k ≡ at + length (p ++ t) = simp length-append (omega arith) in
-    let m : at + standard_hex + k + 1 ≡ at + length b = simp length-append (omega arith) in
-    let x : set d₂ (at + standard_hex + k) etx ≡ put d at b = rw (a, n) (put_set d at (p ++ t) etx (omega (arith, n)) ∙ ap (put d at) (append_assoc p t (etx ∷ []))) in
-    let y : bcc ≡ bcc_of b = eb ∙ ap bcc_of (ap (λ (l : List ℕ). part l at (at + standard_hex + k + 1)) x ∙ ap (part (put d at b) at) m ∙ part_put d at b (omega (arith, m))) in
-    ap (λ (l : List ℕ). set l (at + standard_hex + k + 1) bcc) x ∙ ap (λ (i : ℕ). set (put d at b) i bcc) m ∙ ap (set (put d at b) (at + length b)) y ∙ put_set d at b (bcc_of b) (omega (arith, m))
+    let b = text_of value ++ (etx ∷ []) in
+    let c : part (put d at p) at (at + standard_hex) ≡ p = part_put d at p (omega arith) in
+    e₂ ∙ rw (e₁, c) (put_put d at p (b ++ (bcc_of (p ++ b) ∷ [])) (omega arith)) ∙ ap (put d at) (sym (append_assoc p b _))

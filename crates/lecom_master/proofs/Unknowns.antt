@@ -1,13 +1,7 @@
 -- A reply that says that a code is unknown: its length, its first and its last byte; and which code. Assumes nothing.
-use Prim.Native.Nat.{ℕ, ◌+◌, ◌-◌, ◌≤◌, ◌<◌}
-use mathlib.Core.Path.{◌≡◌, refl, sym, ap, ◌∙◌, subst}
-use mathlib.Core.Bool.{Bool, true, false, ◌&&◌, not}
-use mathlib.Core.Logic.{◌⊎◌, inl, inr, ⊎_elim}
-use mathlib.Core.List.{List, [], ◌∷◌, ◌++◌}
-use native.Mathlib.Omega.{arith}
-use borrow.Author.Tests.{eqb-true, not-true}
-use lib.ListN.{length, get_or, length-append}
-use lib.Seq.{take_at, get_or_at}
+use Rattle.std.proofs.Common.{Result, Ok, Err, ◌≡◌, ℕ, ◌+◌, ◌-◌, ◌<◌, ◌≤◌, Bool, true, false, not, ◌&&◌, ◌⊎◌, List, [], ◌∷◌, ◌++◌, length, get_or, sym, refl, ap, ◌∙◌, subst, inl, inr, ⊎_elim, arith, length-append, take_at, eqb-true}
+use Rattle.std.proofs.lemmas.Bool.{not-true}
+use Rattle.std.proofs.lemmas.List.{get_or_at}
 use Rattle.wire.specs.Buffer.{part, same}
 use Rattle.wire.proofs.Pieces.{framed}
 use Rattle.wire.proofs.Same.{same_refl, same_true}
@@ -17,7 +11,8 @@ use Rattle.lecom.specs.Form.{stx, eot, enq, start_at, standard_hex, extended_hex
 use Rattle.lecom.specs.Frame.{is_write, is_extended, code_end, code_of, asked}
 use Rattle.lecom.specs.Answer.{unknown_bytes}
 use Rattle.lecom.specs.declared.frame.Order.{Order}
-use Rattle.lecom.specs.declared.frame.Order.TheVariants.{Silent, Refused, Read, Write}
+use Rattle.lecom.specs.declared.frame.Refusal.{Refusal}
+use Rattle.lecom.specs.declared.frame.Refusal.TheVariants.{Silent, Refused}
 use Rattle.lecom.proofs.Frames.{read_start, extended_code, standard_code}
 use Rattle.lecom.proofs.Passing.{Laid, unknown_laid}
 use Rattle.lecom.proofs.Wholes.{read_size}
@@ -25,12 +20,11 @@ use Rattle.lecom_master.specs.Heard.{read_of, is_unknown, unknown_code}
 use Rattle.lecom_master.specs.Stages.{code_refused}
 
 -- an order that is refused for its code
-pub unknown_order : (o : Order) → is_unknown o ≡ true → o ≡ Refused range_unknown
+pub unknown_order : (o : Result Order Refusal) → is_unknown o ≡ true → o ≡ Err (Refused range_unknown)
 unfolding is_unknown
-unknown_order (Silent number) h = let z : ◌≡◌ {A = ℕ} 0 1 = cc in let n : ⊥ = omega arith in absurd n
-unknown_order (Refused number) h = ap Refused (eqb-true number range_unknown h)
-unknown_order (Read named) h = let z : ◌≡◌ {A = ℕ} 0 1 = cc in let n : ⊥ = omega arith in absurd n
-unknown_order (Write named value) h = let z : ◌≡◌ {A = ℕ} 0 1 = cc in let n : ⊥ = omega arith in absurd n
+unknown_order (Err (Silent number)) h = let z : ◌≡◌ {A = ℕ} 0 1 = cc in let n : ⊥ = omega arith in absurd n
+unknown_order (Err (Refused number)) h = ap (λ (n : ℕ). Err (Refused n)) (eqb-true number range_unknown h)
+unknown_order (Ok order) h = let z : ◌≡◌ {A = ℕ} 0 1 = cc in let n : ⊥ = omega arith in absurd n
 
 -- a read is four bytes longer than its code
 read_length_law : (address : ℕ) (text : List ℕ) → length (read_of address text) ≡ 4 + length text

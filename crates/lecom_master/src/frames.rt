@@ -20,13 +20,7 @@ pub(crate) fn put_checked(out: &mut [u8], at: usize, code: u32, value: u32) -> u
     ensures { (result ≡ at + length (checked code value)) × (out.new ≡ put out.old at (checked code value)) }
 {
     figures::put_pair(out, at, code as u8);
-    let text = at + Lecom::STANDARD_HEX;
-    let end = text + figures::put_text(out, text, value);
-    out[end] = Lecom::ETX;
-    let last = end + 1;
-    let bcc = frame::bcc(&out[at..last]);
-    out[last] = bcc;
-    last + 1
+    frame::put_data(out, at, at + Lecom::STANDARD_HEX, value)
 }
 
 // Writes EOT and the two address figures.
@@ -63,7 +57,6 @@ pub(crate) fn put_frame(out: &mut [u8], request: Request) -> usize
     requires { (askable request ≡ true) × (longest ≤ length out.old) }
     ensures { Wrote (made request) out.old result out.new }
 {
-    let task = request.task;
     put_start(out, request.address);
-    put_task(out, task)
+    put_task(out, request.task)
 }

@@ -12,13 +12,15 @@ ghost use Rattle.asking.specs.Made.{making};
 ghost use Rattle.lecom_master.specs.Request.{askable, made};
 ghost use Rattle.lecom_master.specs.Heard.{heard};
 
-use asking::Heard;
+use asking::{Heard, Unread};
 use card::Outcome;
 use card::numbers::VALUE_OUTSIDE;
 use lecom::form::Lecom;
+use receiver::Frames;
 use request::Request;
 
-// Makes a request's frame in a lent buffer.
+// Makes a request's frame in a lent buffer. Memory is fixed: an array for the longest, of which the frame is the front.
+// Each master has its own make and read: what they share is in asking, and a trait could not give the room of the frame's array.
 pub fn make(request: Request, out: &mut [u8]) -> Outcome
     ensures { Told (making (askable request) (made request) (length out.old)) out.old result.number result.len out.new }
 {
@@ -34,11 +36,11 @@ pub fn make(request: Request, out: &mut [u8]) -> Outcome
 }
 
 // Reads a reply to a request.
-pub fn read(request: Request, reply: &[u8]) -> Heard
+pub fn read(request: Request, reply: &[u8]) -> Result<Heard, Unread>
     ensures { hearing_of result ≡ unless_outside (askable request) (heard request reply.now) }
 {
     if !request::is_askable(request) {
-        return Heard::Unread(VALUE_OUTSIDE);
+        return Err(Unread::Request);
     }
     hear::hear(request, reply)
 }

@@ -8,6 +8,7 @@ use card::fitness::{FIGURE_VALUES, LECOM_MOST, REGISTER_LEAST, REGISTER_MOST};
 use lecom::form;
 
 // To read what a code names, or to write a value there, in two's complement. A code is its number: register 5 is 5, probe 0 is 60h.
+// An enum: neither task is a case of an Option or a Result.
 #[derive(Clone, Copy)]
 pub enum Task {
     Read(u32),
@@ -39,14 +40,16 @@ fn address_right(address: u32) -> bool
 fn write_right(code: u32, value: u32) -> bool
     ensures { result ≡ task_right (Write code value) }
 {
-    let named = form::named_by(code);
-    if !form::is_writable(named) {
+    let Some(named) = form::named_by(code) else {
+        return false;
+    };
+    if !named.is_writable() {
         return false;
     }
     if !fitness::in_span(value, REGISTER_LEAST, REGISTER_MOST) {
         return false;
     }
-    form::is_taken(named, value)
+    named.takes(value)
 }
 
 // Whether a task lies within document 01.
@@ -54,7 +57,7 @@ fn task_right(task: Task) -> bool
     ensures { result ≡ task_right task }
 {
     match task {
-        Task::Read(code) => form::is_known(form::named_by(code)),
+        Task::Read(code) => form::named_by(code).is_some(),
         Task::Write(code, value) => write_right(code, value),
     }
 }
@@ -66,6 +69,5 @@ pub(crate) fn is_askable(request: Request) -> bool
     if !address_right(request.address) {
         return false;
     }
-    let task = request.task;
-    task_right(task)
+    task_right(request.task)
 }

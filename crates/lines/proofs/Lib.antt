@@ -1,3 +1,4 @@
+pub mod Words
 pub mod Joins
 pub mod Puts
 pub mod Hearings

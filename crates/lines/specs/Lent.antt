@@ -1,5 +1,5 @@
 -- What the console lends for one line: the line, and the buffer of the answer line.
-use Rattle.std.specs.Prelude.{ℕ, suc, ◌+◌, ◌≡◌, List, leb, length}
+use Rattle.std.specs.Prelude.{ℕ, ◌+◌, ◌≡◌, List, leb, length, Option, Some, None}
 use Rattle.wire.specs.Choose.{choose}
 use Rattle.wire.specs.Buffer.{put}
 
@@ -7,10 +7,9 @@ use Rattle.wire.specs.Buffer.{put}
 abbrev pub line_most : ℕ
 line_most = 32768
 
--- bytes came to the n of a line: they follow those, or, where the line gets too long, it is left as it is and its length is one above
--- the longest
-pub record Joined (n : ℕ) (bytes text : List ℕ) (r : ℕ) (text' : List ℕ) : Type 0 where
-  pub measured : r ≡ choose (leb (n + length bytes) line_most) (n + length bytes) (suc line_most)
+-- bytes came to the n of a line: they follow those, or, where the line gets too long, it is left as it is and has no length
+pub record Joined (n : ℕ) (bytes text : List ℕ) (r : Option ℕ) (text' : List ℕ) : Type 0 where
+  pub measured : r ≡ choose (leb (n + length bytes) line_most) (Some (n + length bytes)) None
   pub written : text' ≡ choose (leb (n + length bytes) line_most) (put text n bytes) text
 
 -- no line names more bytes

@@ -1,3 +1,4 @@
 pub mod Lent
+pub mod Line
 pub mod Text
 pub mod Heard

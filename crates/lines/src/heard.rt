@@ -1,90 +1,94 @@
 // The line of what a master heard. docs/CONSOLE.md.
 ghost use Rattle.std.specs.Prelude.{[], ◌∷◌, ◌++◌, ◌+◌, ◌*◌, ◌≤◌, length};
 ghost use Rattle.figures.specs.Decimal.{shortest};
-ghost use Rattle.asking.specs.Hearing.{values_in, hearing_of};
+ghost use Rattle.asking.specs.Hearing.{values_in, said_of, hearing_of};
 ghost use Rattle.asking.specs.Hearing.Hearing.{Refused};
 ghost use Rattle.card.specs.Layout.{channels};
 ghost use Rattle.card.specs.Numbers.{done};
 ghost use Rattle.lines.specs.Text.{Put};
 ghost use Rattle.lines.specs.Heard.{value_text, value_most, values_text, given_text, word_most, worded_most, heard_text, heard_most};
 
-use crate::text;
-use asking::{Group, Heard};
+use crate::text::Text;
+use asking::{Group, Heard, Unread};
 use card::numbers::DONE;
 
 // A value in decimal, after a space.
-fn put_value(out: &mut [u8], at: usize, value: u32) -> usize
-    requires { at + value_most ≤ length out.old }
-    ensures { Put value_most at (value_text value) out.old result out.new }
+fn put_value<const N: usize>(answer: &mut Text<N>, value: u32)
+    requires { answer.old.len + value_most ≤ N }
+    ensures { Put value_most answer.old.len (value_text value) answer.old.out answer.new.len answer.new.out }
 {
-    let space = text::put_words(out, at, b" ");
-    text::put_entry(out, space, value, true)
+    answer.put_words(b" ");
+    answer.put_entry(value, true);
 }
 
 // Values, each after a space.
-fn put_values(out: &mut [u8], at: usize, values: &[u32]) -> usize
-    requires { (at + value_most * length values.now ≤ length out.old) × (length values.now ≤ channels) }
-    ensures { Put (value_most * length values.now) at (values_text values.now) out.old result out.new }
+fn put_values<const N: usize>(answer: &mut Text<N>, values: &[u32])
+    requires { (answer.old.len + value_most * length values.now ≤ N) × (length values.now ≤ channels) }
+    ensures { Put (value_most * length values.now) answer.old.len (values_text values.now) answer.old.out answer.new.len answer.new.out }
 {
-    let mut end = at;
-    let mut i = 0;
-    while i < values.len() {
-        end = put_value(out, end, values[i]);
-        i += 1;
+    for value in values {
+        put_value(answer, *value);
     }
-    end
-}
-
-// `1 value` and the values.
-fn tell_values(out: &mut [u8], values: &[u32]) -> usize
-    requires { (heard_most ≤ length out.old) × (length values.now ≤ channels) }
-    ensures { Put heard_most 0 (given_text values.now) out.old result out.new }
-{
-    let number = text::put_number(out, 0, DONE as u32);
-    let word = text::put_words(out, number, b" value");
-    put_values(out, word, values)
-}
-
-// The values of a group.
-fn tell_group(out: &mut [u8], group: Group) -> usize
-    requires { heard_most ≤ length out.old }
-    ensures { Put heard_most 0 (given_text (values_in group)) out.old result out.new }
-{
-    let values = [group.first, group.second, group.third, group.fourth];
-    let count = asking::count_of(group);
-    tell_values(out, &values[..count])
 }
 
 // `1` and a word.
-fn tell_word(out: &mut [u8], word: &[u8]) -> usize
-    requires { (heard_most ≤ length out.old) × (length word.now ≤ word_most) }
-    ensures { Put worded_most 0 (shortest done ++ word.now) out.old result out.new }
+fn tell_word<const N: usize>(answer: &mut Text<N>, word: &[u8])
+    requires { (length word.now ≤ word_most) × (worded_most ≤ N) }
+    ensures { Put worded_most 0 (shortest done ++ word.now) answer.old.out answer.new.len answer.new.out }
 {
-    let number = text::put_number(out, 0, DONE as u32);
-    text::put_words(out, number, word)
+    answer.clear();
+    answer.put_number(DONE as u32);
+    answer.put_words(word);
+}
+
+// `1 value` and the values.
+fn tell_values<const N: usize>(answer: &mut Text<N>, values: &[u32])
+    requires { (length values.now ≤ channels) × (heard_most ≤ N) }
+    ensures { Put heard_most 0 (given_text values.now) answer.old.out answer.new.len answer.new.out }
+{
+    tell_word(answer, b" value");
+    put_values(answer, values);
+}
+
+// The values of a group.
+fn tell_group<const N: usize>(answer: &mut Text<N>, group: Group)
+    requires { heard_most ≤ N }
+    ensures { Put heard_most 0 (given_text (values_in group)) answer.old.out answer.new.len answer.new.out }
+{
+    tell_values(answer, group.values());
 }
 
 // `1 refused` and the code or status.
-fn tell_refused_for(out: &mut [u8], code: u8) -> usize
-    requires { heard_most ≤ length out.old }
-    ensures { Put heard_most 0 (heard_text (Refused (code ∷ []))) out.old result out.new }
+fn tell_refused_for<const N: usize>(answer: &mut Text<N>, code: u8)
+    requires { heard_most ≤ N }
+    ensures { Put heard_most 0 (heard_text (Refused (code ∷ []))) answer.old.out answer.new.len answer.new.out }
 {
-    let word = tell_word(out, b" refused");
-    put_value(out, word, code as u32)
+    tell_word(answer, b" refused");
+    put_value(answer, code as u32);
+}
+
+// The line of what a reply says.
+fn tell_said<const N: usize>(answer: &mut Text<N>, said: Heard)
+    requires { heard_most ≤ N }
+    ensures { Put heard_most 0 (heard_text (said_of said)) answer.old.out answer.new.len answer.new.out }
+{
+    match said {
+        Heard::Value(value) => tell_values(answer, &[value]),
+        Heard::Values(group) => tell_group(answer, group),
+        Heard::Done => tell_word(answer, b" done"),
+        Heard::Fault => tell_word(answer, b" fault"),
+        Heard::Refused => tell_word(answer, b" refused"),
+        Heard::RefusedFor(code) => tell_refused_for(answer, code),
+    }
 }
 
 // The line of what was heard.
-pub fn tell_heard(out: &mut [u8], heard: Heard) -> usize
-    requires { heard_most ≤ length out.old }
-    ensures { Put heard_most 0 (heard_text (hearing_of heard)) out.old result out.new }
+pub fn tell_heard<const N: usize>(answer: &mut Text<N>, heard: Result<Heard, Unread>)
+    requires { heard_most ≤ N }
+    ensures { Put heard_most 0 (heard_text (hearing_of heard)) answer.old.out answer.new.len answer.new.out }
 {
     match heard {
-        Heard::Value(value) => tell_values(out, &[value]),
-        Heard::Values(group) => tell_group(out, group),
-        Heard::Done => tell_word(out, b" done"),
-        Heard::Fault => tell_word(out, b" fault"),
-        Heard::Refused => tell_word(out, b" refused"),
-        Heard::RefusedFor(code) => tell_refused_for(out, code),
-        Heard::Unread(number) => text::tell_number(out, number),
+        Ok(said) => tell_said(answer, said),
+        Err(why) => answer.tell_number(why.number()),
     }
 }

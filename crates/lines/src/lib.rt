@@ -6,6 +6,8 @@ pub mod line;
 pub mod text;
 pub mod usage;
 
+use text::Text;
+
 // The longest line, without its line feed.
 pub const LINE_MOST: usize = 32_768;
 
@@ -15,10 +17,13 @@ pub const BYTES_MOST: usize = LINE_MOST / 2;
 // The longest answer buffer that a line can ask for.
 pub const ROOM_MOST: usize = 1_024;
 
-// The buffer of the answer line: peek memory fills most of it.
+// The buffer of an answer line with its line feed: peek memory fills most of it.
 pub const ANSWER_MOST: usize = 65_536;
 
-// Stands for an answer's length where the words after a known first word do not fit. No answer is as long: its line feed needs room too.
-pub const UNREAD: usize = ANSWER_MOST;
+// The longest answer line, without its line feed.
+pub const TEXT_MOST: usize = ANSWER_MOST - 1;
+
+// An answer line.
+pub type Answer = Text<TEXT_MOST>;
 
 pub const LINE_FEED: u8 = b'\n';

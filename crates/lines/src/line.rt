@@ -1,17 +1,14 @@
 // A line as it comes; its words, numbers and bytes. A word is a run of bytes that are no spaces.
-ghost use Rattle.std.specs.Prelude.{◌≡◌, true, ◌+◌, ◌*◌, ◌≤◌, ◌<◌, length};
+ghost use Rattle.std.specs.Prelude.{◌≡◌, ◌+◌, ◌*◌, ◌^◌, ◌≤◌, ◌<◌, ◌↔◌, length, IsTrue, IsSome, IfSome};
 ghost use Rattle.wire.specs.Buffer.{same};
-ghost use Rattle.figures.specs.Figure.{no_byte};
-ghost use Rattle.figures.specs.Decimal.{no_value};
-ghost use Rattle.figures.specs.Sheet.{IsSheet};
 ghost use Rattle.lines.specs.Lent.{line_most, Joined};
+ghost use Rattle.lines.specs.Line.{Taken};
 
-use crate::LINE_MOST;
 use crate::text::SPACE;
 use figures::sheet::Sheet;
-use figures::{HEX, MINUS, NO_BYTE, NO_VALUE};
+use figures::{HEX, MINUS};
 
-// "A number is decimal, of one to ten figures". A word that is none has a value above every limit.
+// "A number is decimal, of one to ten figures".
 const FIGURES_MOST: usize = 10;
 
 // A byte is "exactly two hex figures".
@@ -20,43 +17,39 @@ const PAIR: usize = 2;
 // The largest magnitude of a negative number.
 const HALF: u32 = 2147483648;
 
-// Bytes that do not end the line join it. Of a line that is too long only its length is kept, one above the longest.
-pub fn join(text: &mut [u8], n: usize, bytes: &[u8]) -> usize
+// Bytes that do not end the line join it: how long it is then. None where it gets too long, and it is left as it was.
+pub fn join(text: &mut [u8], n: usize, bytes: &[u8]) -> Option<usize>
     requires { length text.old ≡ line_most }
     ensures { Joined n bytes.now text.old result text.new }
 {
     if text.len() < n {
-        return LINE_MOST + 1;
+        return None;
     }
     if text.len() - n < bytes.len() {
-        return LINE_MOST + 1;
+        return None;
     }
     wire::copy(bytes, text, n);
-    n + bytes.len()
+    Some(n + bytes.len())
 }
 
-// The first place from at on where s has b, or, where has is false, another byte; else the end of s.
-pub fn scan(s: &[u8], at: usize, b: u8, has: bool) -> usize
-    requires { at ≤ length s.now }
+// The first place from at on that a test stops at; else the end of s.
+pub fn scan<F: Fn(u8) -> bool>(s: &[u8], at: usize, stops: F) -> usize
+    requires place { at ≤ length s.now }
+    requires test { F.IsAlwaysCallable stops }
     ensures { (at ≤ result) × (result ≤ length s.now) }
 {
-    let mut i = at;
-    while i < s.len() {
-        let here = s[i] == b;
-        if here == has {
-            return i;
-        }
-        i += 1;
+    match s[at..].iter().position(|b| stops(*b)) {
+        Some(i) => at + i,
+        None => s.len(),
     }
-    i
 }
 
 // Where the first word from at on starts, or the end of the line.
-pub fn next_word(s: &[u8], at: usize) -> usize
+fn next_word(s: &[u8], at: usize) -> usize
     requires { at ≤ length s.now }
     ensures { (at ≤ result) × (result ≤ length s.now) }
 {
-    scan(s, at, SPACE, false)
+    scan(s, at, |b| b != SPACE)
 }
 
 // Where the word at at ends.
@@ -64,138 +57,146 @@ pub fn word_end(s: &[u8], at: usize) -> usize
     requires { at ≤ length s.now }
     ensures { (at ≤ result) × (result ≤ length s.now) }
 {
-    scan(s, at, SPACE, true)
-}
-
-// A word of a line: where it ends, and where the next one starts.
-#[derive(Clone, Copy)]
-pub struct Word {
-    pub end: usize,
-    pub next: usize,
-}
-
-// The word at at.
-pub fn read_word(s: &[u8], at: usize) -> Word
-    requires { at ≤ length s.now }
-    ensures { (at ≤ result.end) × ((result.end ≤ result.next) × (result.next ≤ length s.now)) }
-{
-    let end = word_end(s, at);
-    let next = next_word(s, end);
-    Word { end, next }
+    scan(s, at, |b| b == SPACE)
 }
 
 // Whether a word is a name.
 pub fn is_word(word: &[u8], name: &[u8]) -> bool
     ensures { result ≡ same word.now name.now }
 {
-    if word.len() != name.len() {
-        return false;
-    }
-    wire::is_same(word, name)
+    word == name
 }
 
-// The value of a word of decimal figures, or NO_VALUE.
-fn number_in(word: &[u8]) -> u64
-    ensures { length word.now ≡ 0 → result ≡ no_value }
+// The value of a word as a number of at most most.
+fn number_in(word: &[u8], most: u32) -> Option<u32>
+    ensures most { IfSome result (λ v. v ≤ most) }
+    ensures figures { IsSome result → 0 < length word.now }
 {
-    if word.len() == 0 {
-        return NO_VALUE;
+    if word.is_empty() || FIGURES_MOST < word.len() {
+        return None;
     }
-    if FIGURES_MOST < word.len() {
-        return NO_VALUE;
-    }
-    figures::value(&figures::sheet::take(), word)
-}
-
-// A number read from a line: whether there is one, its value and where the next word starts.
-#[derive(Clone, Copy)]
-pub struct Number {
-    pub right: bool,
-    pub value: u32,
-    pub next: usize,
-}
-
-// The word at at as a number of at most most.
-pub fn read_number(s: &[u8], at: usize, most: u32) -> Number
-    requires { at ≤ length s.now }
-    ensures { (result.value ≤ most) × ((result.next ≤ length s.now) × (result.right ≡ true → at < result.next)) }
-{
-    let word = read_word(s, at);
-    let end = word.end;
-    let value = number_in(&s[at..end]);
+    let value = figures::sheet::take().value(word)?;
     if (most as u64) < value {
-        return Number {
-            right: false,
-            value: 0,
-            next: word.next,
-        };
+        return None;
     }
-    Number {
-        right: true,
-        value: value as u32,
-        next: word.next,
-    }
+    Some(value as u32)
 }
 
-// The word at at as a signed number, in two's complement.
-pub fn read_signed(s: &[u8], at: usize) -> Number
+// The byte that the word at at is.
+fn byte_at(sheet: &Sheet, s: &[u8], at: usize) -> Option<u8>
     requires { at ≤ length s.now }
-    ensures { result.next ≤ length s.now }
-{
-    if at < s.len() {
-        if s[at] == MINUS {
-            let n = read_number(s, at + 1, HALF);
-            return Number {
-                right: n.right,
-                value: figures::with_sign(true, n.value),
-                next: n.next,
-            };
-        }
-    }
-    read_number(s, at, HALF - 1)
-}
-
-// The byte that the word at at is, or NO_BYTE.
-fn byte_at(sheet: &Sheet, s: &[u8], at: usize) -> u32
-    requires sheet { IsSheet sheet.now }
-    requires at_in_bounds { at < length s.now }
-    ensures { (result ≤ no_byte) × ((result < no_byte → at + 2 ≤ length s.now)) }
+    ensures { IsSome result → at + 2 ≤ length s.now }
 {
     let left = s.len() - at;
     if left < PAIR {
-        return NO_BYTE;
+        return None;
     }
-    if PAIR < left {
-        if s[at + PAIR] != SPACE {
-            return NO_BYTE;
-        }
+    if PAIR < left && s[at + PAIR] != SPACE {
+        return None;
     }
-    figures::pair_byte(sheet, s[at], s[at + 1], HEX)
+    sheet.pair_byte(s[at], s[at + 1], HEX)
 }
 
-// Bytes read from a line: how many there are, and where the first word starts that is none.
+// A line that is read word by word: at is where the next word starts, or the line's end.
 #[derive(Clone, Copy)]
-pub struct Bytes {
-    pub count: usize,
-    pub next: usize,
+pub struct Line<'a> {
+    pub bytes: &'a [u8],
+    pub at: usize,
+    ghost inside: { at ≤ length bytes.now },
 }
 
-// The words from at on as bytes, up to the first that is none. They go to the front of to.
-pub fn read_bytes(s: &[u8], at: usize, to: &mut [u8]) -> Bytes
-    requires { (at ≤ length s.now) × (length s.now ≤ 2 * length to.old) }
-    ensures { (result.count ≤ length to.new) × (result.next ≤ length s.now) }
-{
-    let sheet = figures::sheet::take();
-    let mut next = at;
-    let mut count = 0;
-    while next < s.len() {
-        let b = byte_at(&sheet, s, next);
-        if NO_BYTE <= b {
-            return Bytes { count, next };
+impl<'a> Line<'a> {
+    // A line from its first word on.
+    pub fn of(bytes: &'a [u8]) -> Line<'a>
+        ensures { result.bytes.now ≡ bytes.now }
+    {
+        Line {
+            bytes,
+            at: next_word(bytes, 0),
         }
-        to[count] = b as u8;
-        count += 1;
-        next = next_word(s, next + PAIR);
     }
-    Bytes { count, next }
+
+    // Whether no word is left.
+    pub fn is_over(&self) -> bool
+        ensures { IsTrue result ↔ (self.now.at ≡ length self.now.bytes.now) }
+    {
+        self.at == self.bytes.len()
+    }
+
+    // No word is left.
+    pub fn end(&self) -> Option<()>
+        ensures { IsSome result ↔ (self.now.at ≡ length self.now.bytes.now) }
+    {
+        self.is_over().then_some(())
+    }
+
+    // The next word; an empty one where none is left.
+    pub fn word(&mut self) -> &'a [u8]
+        ensures { Taken self.old.bytes.now self.old.at result.now self.new.bytes.now self.new.at }
+    {
+        let from = self.at;
+        let end = word_end(self.bytes, from);
+        self.at = next_word(self.bytes, end);
+        &self.bytes[from..end]
+    }
+
+    // The next word as a number of at most most.
+    pub fn number(&mut self, most: u32) -> Option<u32>
+        ensures most { IfSome result (λ v. v ≤ most) }
+        ensures stays { self.new.bytes.now ≡ self.old.bytes.now }
+        ensures after { (self.old.at ≤ self.new.at) × (IsSome result → self.old.at < self.new.at) }
+    {
+        number_in(self.word(), most)
+    }
+
+    // The next word as a signed number, in two's complement.
+    pub fn signed(&mut self) -> Option<u32>
+        ensures most { IfSome result (λ v. v < 2 ^ 32) }
+        ensures stays { self.new.bytes.now ≡ self.old.bytes.now }
+        ensures after { self.old.at ≤ self.new.at }
+    {
+        if self.at < self.bytes.len() && self.bytes[self.at] == MINUS {
+            self.at += 1;
+            let magnitude = self.number(HALF)?;
+            return Some(figures::with_sign(true, magnitude));
+        }
+        self.number(HALF - 1)
+    }
+
+    // The next word as the last one, a number of at most most.
+    pub fn last_number(&mut self, most: u32) -> Option<u32>
+        ensures { IfSome result (λ v. v ≤ most) }
+    {
+        let n = self.number(most)?;
+        self.end()?;
+        Some(n)
+    }
+
+    // The next words as bytes, up to the first that is none. They stand at the front of to.
+    pub fn bytes<'b>(&mut self, to: &'b mut [u8]) -> &'b [u8]
+        requires { length self.old.bytes.now ≤ 2 * length to.old }
+        ensures few { 2 * length result.now ≤ length self.old.bytes.now }
+        ensures stays { self.new.bytes.now ≡ self.old.bytes.now }
+        ensures after { self.old.at ≤ self.new.at }
+    {
+        let sheet = figures::sheet::take();
+        let mut count = 0;
+        // A while loop: it goes by the words that are left.
+        while let Some(b) = byte_at(&sheet, self.bytes, self.at) {
+            to[count] = b;
+            count += 1;
+            self.at = next_word(self.bytes, self.at + PAIR);
+        }
+        &to[..count]
+    }
+
+    // The next words as bytes, to the line's end.
+    pub fn last_bytes<'b>(&mut self, to: &'b mut [u8]) -> Option<&'b [u8]>
+        requires { length self.old.bytes.now ≤ 2 * length to.old }
+        ensures { IfSome result (λ bytes. 2 * length bytes.now ≤ length self.old.bytes.now) }
+    {
+        let bytes = self.bytes(to);
+        self.end()?;
+        Some(bytes)
+    }
 }

@@ -1,8 +1,8 @@
 // The usage of calls: a list of the lines that can be read, and the answer to a line that cannot. docs/CONSOLE.md.
-ghost use Rattle.std.specs.Prelude.{◌+◌, ◌≤◌, ◌<◌, length};
-ghost use Rattle.lines.specs.Lent.{answer_most, list_most, before_most};
+ghost use Rattle.std.specs.Prelude.{◌≡◌, ◌+◌, ◌≤◌, ◌<◌, length, MatchOption};
+ghost use Rattle.lines.specs.Lent.{list_most, before_most};
 
-use crate::{ANSWER_MOST, line, text};
+use crate::{Answer, TEXT_MOST, line};
 
 // Two usage lines of a list stand this and a space apart.
 const SEMICOLON: u8 = b';';
@@ -14,31 +14,41 @@ fn usage_end(list: &[u8], from: usize) -> usize
     requires { from ≤ length list.now }
     ensures { (from ≤ result) × (result ≤ length list.now) }
 {
-    line::scan(list, from, SEMICOLON, true)
+    line::scan(list, from, |b| b == SEMICOLON)
 }
 
-// A usage line in a list: where it ends, and where the next one starts or the list ends.
-#[derive(Clone, Copy)]
-struct Usage {
-    end: usize,
-    next: usize,
-}
-
-// The usage line at from.
-fn usage_at(list: &[u8], from: usize) -> Usage
-    requires { from < length list.now }
-    ensures { ((from ≤ result.end) × (result.end ≤ result.next)) × ((from < result.next) × (result.next ≤ length list.now)) }
+// Where the next usage line starts, or the list ends, after one that ends at end.
+fn next_usage(list: &[u8], end: usize) -> usize
+    requires { end ≤ length list.now }
+    ensures { ((end ≤ result) × (result ≤ length list.now)) × (end < length list.now → end < result) }
 {
-    let end = usage_end(list, from);
     if list.len() - end < GAP {
-        return Usage {
-            end,
-            next: list.len(),
-        };
+        return list.len();
     }
-    Usage {
-        end,
-        next: end + GAP,
+    end + GAP
+}
+
+// The usage lines of a list from at on.
+#[derive(Clone, Copy)]
+struct Usages<'a> {
+    list: &'a [u8],
+    at: usize,
+    ghost inside: { at ≤ length list.now },
+}
+
+impl<'a> Usages<'a> {
+    // The next usage line. The list is cut here, since `help` writes it as one text.
+    fn next(&mut self) -> Option<&'a [u8]>
+        ensures list { self.new.list.now ≡ self.old.list.now }
+        ensures next { MatchOption result (self.new.at ≡ self.old.at) (λ usage. (self.old.at + length usage.now ≤ self.new.at) × (self.old.at < self.new.at)) }
+    {
+        if self.at < self.list.len() {
+            let from = self.at;
+            let end = usage_end(self.list, from);
+            self.at = next_usage(self.list, end);
+            return Some(&self.list[from..end]);
+        }
+        None
     }
 }
 
@@ -49,32 +59,27 @@ fn is_named(usage: &[u8], name: &[u8]) -> bool {
 }
 
 // A usage line, after the words that come before the first or between two.
-fn put_usage(out: &mut [u8; ANSWER_MOST], at: usize, usage: &[u8]) -> usize
-    requires { (at + before_most) + length usage.now ≤ answer_most }
-    ensures { result ≤ (at + before_most) + length usage.now }
+fn put_usage(answer: &mut Answer, usage: &[u8])
+    requires { (answer.old.len + before_most) + length usage.now ≤ TEXT_MOST }
+    ensures { answer.new.len ≤ (answer.old.len + before_most) + length usage.now }
 {
-    if at == 0 {
-        let first = text::put_words(out, at, b"error expected ");
-        return text::put_words(out, first, usage);
+    if answer.len == 0 {
+        answer.put_words(b"error expected ");
+    } else {
+        answer.put_words(b" or ");
     }
-    let or = text::put_words(out, at, b" or ");
-    text::put_words(out, or, usage)
+    answer.put_words(usage);
 }
 
 // The line of what the words after a known name should have been: each usage line of a list that has this name.
-pub fn tell_expected(out: &mut [u8; ANSWER_MOST], list: &[u8], name: &[u8]) -> usize
+pub fn tell_expected(answer: &mut Answer, list: &[u8], name: &[u8])
     requires { length list.now ≤ list_most }
-    ensures { result < answer_most }
 {
-    let mut at = 0;
-    let mut from = 0;
-    while from < list.len() {
-        let usage = usage_at(list, from);
-        let end = usage.end;
-        if is_named(&list[from..end], name) {
-            at = put_usage(out, at, &list[from..end]);
+    answer.clear();
+    let mut usages = Usages { list, at: 0 };
+    while let Some(usage) = usages.next() {
+        if is_named(usage, name) {
+            put_usage(answer, usage);
         }
-        from = usage.next;
     }
-    at
 }

@@ -1,9 +1,5 @@
 -- A fit card stays fit, whatever Love frame it gets. Assumes nothing.
-use mathlib.Core.Path.{◌≡◌, ◌∙◌}
-use mathlib.Core.Bool.{true}
-use mathlib.Core.List.{List}
-use Prim.Native.Nat.{ℕ, ◌+◌}
-use lib.ListN.{length-set}
+use Rattle.std.proofs.Common.{◌≡◌, ◌∙◌, true, List, ℕ, ◌+◌, length-set, Result, Ok, Err}
 use Rattle.card.specs.Layout.{Card, love_at}
 use Rattle.card.specs.Fitness.{fit}
 use Rattle.card.specs.Reply.{on_words, room_least}
@@ -14,18 +10,20 @@ use Rattle.love.specs.Frame.{asked}
 use Rattle.love.specs.Stages.{Sound}
 use Rattle.love.specs.Answer.{address_of, obeyed, love_reply}
 use Rattle.love.specs.declared.frame.Order.{Order}
-use Rattle.love.specs.declared.frame.Order.TheVariants.{Silent, Refused, Probe, Read, Write}
+use Rattle.love.specs.declared.frame.Order.TheVariants.{Probe, Read, Write}
+use Rattle.love.specs.declared.frame.Refusal.{Refusal}
+use Rattle.love.specs.declared.frame.Refusal.TheVariants.{Silent, Refused}
 use Rattle.love.proofs.Frames.{asked_sound}
 
-obeyed_fit : (card : Card) (order : Order) → Sound order → fit card ≡ true → IsFit (on_words card (obeyed card.words card.memory order))
+obeyed_fit : (card : Card) (order : Result Order Refusal) → Sound order → fit card ≡ true → IsFit (on_words card (obeyed card.words card.memory order))
 unfolding obeyed
-obeyed_fit card (Silent number) w e = e
-obeyed_fit card (Refused number code) w e = e
-obeyed_fit card Probe w e = e
-obeyed_fit card (Read k) w e = e
-obeyed_fit card (Write k word) w e =
+obeyed_fit card (Err (Silent number)) w e = e
+obeyed_fit card (Err (Refused number code)) w e = e
+obeyed_fit card (Ok Probe) w e = e
+obeyed_fit card (Ok (Read k)) w e = e
+obeyed_fit card (Ok (Write k word)) w e =
     let t = fit_facts card e in
-    words_reply_fit card (obeyed card.words card.memory (Write k word)) e
+    words_reply_fit card (obeyed card.words card.memory (Ok (Write k word))) e
     (length-set card.words (love_at + k) word ∙ t.words_length)
     (set_fit card.words (love_at + k) word t.words_fit w.1)
 

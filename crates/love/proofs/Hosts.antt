@@ -1,12 +1,5 @@
 -- Love frames as a host makes them: what one with given data asks of every unit. For masters. Assumes nothing.
-use Prim.Native.Nat.{ℕ, zero, suc, ◌-◌, ◌/◌, ◌%◌, ◌≤◌, ◌<◌}
-use mathlib.Core.Path.{◌≡◌, refl, sym, ap, ap₂, ◌∙◌}
-use mathlib.Core.Bool.{Bool, true, false, ◌&&◌}
-use mathlib.Core.List.{List, [], ◌∷◌, ◌++◌}
-use native.Mathlib.Omega.{arith}
-use borrow.Author.Tests.{le-leb, lt-ltb, eqb-true, eq-eqb}
-use lib.Dec.{eqb}
-use lib.ListN.{length, get_or}
+use Rattle.std.proofs.Common.{ℕ, zero, suc, ◌-◌, ◌/◌, ◌%◌, ◌≤◌, ◌<◌, ◌≡◌, refl, sym, ap, ap₂, ◌∙◌, Bool, true, false, ◌&&◌, List, [], ◌∷◌, ◌++◌, arith, le-leb, lt-ltb, eqb-true, eq-eqb, eqb, length, get_or, Result, Err}
 use Rattle.wire.specs.Choose.{choose}
 use Rattle.wire.specs.Length.{between}
 use Rattle.wire.specs.Sum.{byte_values, sum_of}
@@ -22,7 +15,8 @@ use Rattle.love.specs.Form.{shortest, longest, stx, etx, letters, filter_of, che
 use Rattle.love.specs.Frame.{for_unit, checksum_right, asked}
 use Rattle.love.specs.Stages.{order_in, order_here}
 use Rattle.love.specs.declared.frame.Order.{Order}
-use Rattle.love.specs.declared.frame.Order.TheVariants.{Silent, Refused}
+use Rattle.love.specs.declared.frame.Refusal.{Refusal}
+use Rattle.love.specs.declared.frame.Refusal.TheVariants.{Silent, Refused}
 use Rattle.love.proofs.Passes.{Formed, asked_formed, framed, framed_length, framed_last, framed_high, framed_low, framed_data, framed_summed}
 
 -- the four letters are four: a filter tells the hundreds
@@ -109,16 +103,16 @@ module _ (address : ℕ) (most : address ≤ love_address_most) (d : List ℕ) (
 
   -- with the right checksum the data decide; with another the frame is refused
   sent_right : eqb (pair_byte upper_hex u v) (sum_of (x ∷ y ∷ d)) ≡ true
-      → (unit : ℕ) → asked unit sent ≡ choose (eqb address unit) (choose (all_figures hex d) (order_in d) (Refused frame_form illegal_character)) (Silent foreign_address)
+      → (unit : ℕ) → asked unit sent ≡ choose (eqb address unit) (choose (all_figures hex d) (order_in d) (Err (Refused frame_form illegal_character))) (Err (Silent foreign_address))
   unfolding order_here
   sent_right h unit =
       asked_formed unit sent sent_formed
-      ∙ ap₂ (λ (t : Bool) (x : Order). choose t x (Silent foreign_address)) (sent_unit unit)
+      ∙ ap₂ (λ (t : Bool) (x : Result Order Refusal). choose t x (Err (Silent foreign_address))) (sent_unit unit)
       (sym (yes _ _ _ _ (sent_check ∙ h) refl)
-      ∙ ap (λ (s : List ℕ). choose (all_figures hex s) (order_in s) (Refused frame_form illegal_character)) (framed_data stx (filter_of address) x y d u v etx))
+      ∙ ap (λ (s : List ℕ). choose (all_figures hex s) (order_in s) (Err (Refused frame_form illegal_character))) (framed_data stx (filter_of address) x y d u v etx))
 
   pub sent_wrong : eqb (pair_byte upper_hex u v) (sum_of (x ∷ y ∷ d)) ≡ false
-      → asked address sent ≡ Refused check_character checksum_error
+      → asked address sent ≡ Err (Refused check_character checksum_error)
   unfolding order_here
   sent_wrong h =
       asked_formed address sent sent_formed ∙ sym (yes _ _ _ _ (sent_unit address ∙ eq-eqb address address refl) (no _ _ _ _ (sent_check ∙ h) refl))
@@ -130,7 +124,7 @@ host_frame address d =
     stx ∷ filter_of address ∷ (b ++ (pair_of (sum_of b) ++ (etx ∷ [])))
 
 pub host_asked : (address : ℕ) → address ≤ love_address_most → (d : List ℕ) → length d ≤ longest - shortest → (unit : ℕ)
-    → asked unit (host_frame address d) ≡ choose (eqb address unit) (choose (all_figures hex d) (order_in d) (Refused frame_form illegal_character)) (Silent foreign_address)
+    → asked unit (host_frame address d) ≡ choose (eqb address unit) (choose (all_figures hex d) (order_in d) (Err (Refused frame_form illegal_character))) (Err (Silent foreign_address))
 unfolding host_frame pair_of
 host_asked address most d short =
     let unit_byte = address % love_hundred in

@@ -1,12 +1,6 @@
 -- A Love frame by its parts, and what one of a right form asks. For masters, which make such frames. Assumes nothing.
-use Prim.Native.Nat.{ℕ, suc, ◌+◌, ◌-◌}
-use mathlib.Core.Path.{◌≡◌, refl, sym, ap, ◌∙◌}
-use mathlib.Core.Bool.{true}
-use mathlib.Core.List.{List, [], ◌∷◌, ◌++◌}
-use native.Mathlib.Omega.{arith}
-use lib.Dec.{eqb}
-use lib.ListN.{length, get_or, length-append}
-use lib.Seq.{take-append_seam, get_or-append-add}
+use Rattle.std.proofs.Common.{ℕ, suc, ◌+◌, ◌-◌, ◌≡◌, refl, sym, ap, ◌∙◌, true, List, [], ◌∷◌, ◌++◌, arith, eqb, length, get_or, length-append, get_or-append-add}
+use lib.Seq.{take-append_seam}
 use Rattle.wire.specs.Buffer.{part}
 use Rattle.wire.proofs.Cases.{yes}
 use Rattle.figures.specs.Figure.{upper_hex, all_figures}

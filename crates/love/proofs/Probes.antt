@@ -1,8 +1,5 @@
 -- What an answer shows of the probes: 00 is answered by the reading of probe 0, and no reply depends on another probe. Assumes nothing.
-use mathlib.Core.Path.{◌≡◌, refl}
-use mathlib.Core.List.{List, [], ◌∷◌}
-use Prim.Native.Nat.{ℕ}
-use lib.ListN.{get_or}
+use Rattle.std.proofs.Common.{◌≡◌, refl, List, [], ◌∷◌, ℕ, get_or, Result, Ok, Err}
 use Rattle.wire.specs.Choose.{choose}
 use Rattle.figures.specs.Figure.{zero_char, char_of, pair_of}
 use Rattle.figures.specs.Decimal.{digits}
@@ -16,10 +13,12 @@ use Rattle.love.specs.Form.{data_at}
 use Rattle.love.specs.Frame.{asked}
 use Rattle.love.specs.Answer.{unit_of, normal_reply, fine_char, fault_char, status_data, probe_data, address_of, obeyed, love_reply}
 use Rattle.love.specs.declared.frame.Order.{Order}
-use Rattle.love.specs.declared.frame.Order.TheVariants.{Silent, Refused, Probe, Read, Write}
+use Rattle.love.specs.declared.frame.Order.TheVariants.{Probe, Read, Write}
+use Rattle.love.specs.declared.frame.Refusal.{Refusal}
+use Rattle.love.specs.declared.frame.Refusal.TheVariants.{Silent, Refused}
 
 -- 00 is answered by the reading of probe 0, unless 12 or 11 comes first
-pub probe_read : (card : Card) (room : ℕ) (f : List ℕ) → asked (address_of card.words) f ≡ Probe
+pub probe_read : (card : Card) (room : ℕ) (f : List ℕ) → asked (address_of card.words) f ≡ Ok Probe
     → love_reply card room f ≡ shell room_least card room (sent answered (normal_reply (address_of card.words) (probe_data (reading_of (get_or card.memory 0 0)))) card)
 unfolding love_reply obeyed
 probe_read card room f order = rw order
@@ -39,14 +38,14 @@ unfolding normal_reply unit_of pair_of
 first_of_data address x rest field e = rw e
 
 -- the reply depends on the code of probe 0 where the frame asks for it, and on no other byte of the memory
-pub asked_alone : (words memory memory' f : List ℕ) → (asked (address_of words) f ≡ Probe → get_or memory 0 0 ≡ get_or memory' 0 0)
+pub asked_alone : (words memory memory' f : List ℕ) → (asked (address_of words) f ≡ Ok Probe → get_or memory 0 0 ≡ get_or memory' 0 0)
     → obeyed words memory (asked (address_of words) f) ≡ obeyed words memory' (asked (address_of words) f)
 unfolding obeyed
 asked_alone words memory memory' f = by (asked (address_of words) f)
   where
-    by : (order : Order) → (order ≡ Probe → get_or memory 0 0 ≡ get_or memory' 0 0) → obeyed words memory order ≡ obeyed words memory' order
-    by (Silent number) same = refl
-    by (Refused number code) same = refl
-    by Probe same = rw (same refl)
-    by (Read k) same = refl
-    by (Write k word) same = refl
+    by : (order : Result Order Refusal) → (order ≡ Ok Probe → get_or memory 0 0 ≡ get_or memory' 0 0) → obeyed words memory order ≡ obeyed words memory' order
+    by (Err (Silent number)) same = refl
+    by (Err (Refused number code)) same = refl
+    by (Ok Probe) same = rw (same refl)
+    by (Ok (Read k)) same = refl
+    by (Ok (Write k word)) same = refl

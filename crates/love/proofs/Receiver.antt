@@ -1,14 +1,7 @@
 -- Love's receiver: which part frames it can hold, and frames that it hands over. Assumes nothing.
-use mathlib.Core.Path.{◌≡◌, refl, subst}
-use mathlib.Core.Bool.{Bool, true, false, not}
-use mathlib.Core.List.{List, [], ◌∷◌, ◌++◌}
-use mathlib.Core.Logic.◌⊎◌.{inl, inr}
+use Rattle.std.proofs.Common.{◌≡◌, refl, subst, Bool, true, false, not, List, [], ◌∷◌, ◌++◌, inl, inr, ℕ, ◌≤◌, ◌<◌, arith, leb-true, le-leb, lt-ltb, ltb-true, ne_eqb, leb, ltb, eqb, length, length-append}
 use Prim.{tt}
-use Prim.Native.Nat.{ℕ, ◌≤◌, ◌<◌}
-use native.Mathlib.Omega.{arith}
-use borrow.Author.Tests.{leb-true, le-leb, lt-ltb, ltb-true, ne_eqb, not-true}
-use lib.Dec.{leb, ltb, eqb}
-use lib.ListN.{length, length-append}
+use borrow.Author.Tests.{not-true}
 use Rattle.wire.specs.Choose.{choose}
 use Rattle.wire.proofs.Cases.{by_choice}
 use Rattle.wire.proofs.Tests.{and_true, neither}

@@ -1,14 +1,6 @@
 -- A Love frame that is carried out is known from what it asks: all but its data, and of its data what the order says. For masters. Assumes nothing.
 use Prim.{Unit, tt}
-use Prim.Native.Nat.{ℕ, suc, ◌+◌, ◌-◌, ◌/◌, ◌%◌, ◌≤◌, ◌<◌}
-use mathlib.Core.Path.{◌≡◌, refl, sym, ap, ap₂, ◌∙◌}
-use mathlib.Core.Bool.{true}
-use mathlib.Core.List.{List, [], ◌∷◌, ◌++◌}
-use native.Mathlib.Omega.{arith}
-use borrow.Author.Tests.{eqb-true, ltb-true}
-use lib.Dec.{eqb}
-use lib.ListN.{length, get_or, drop, drop_of_length-le, take-append-drop}
-use lib.Seq.{drop-cons, drop-drop}
+use Rattle.std.proofs.Common.{ℕ, suc, ◌+◌, ◌-◌, ◌/◌, ◌%◌, ◌≤◌, ◌<◌, ◌≡◌, refl, sym, ap, ap₂, ◌∙◌, true, List, [], ◌∷◌, ◌++◌, arith, eqb-true, ltb-true, eqb, length, get_or, drop, drop_of_length-le, take-append-drop, drop-cons, drop-drop, Result, Ok, Err}
 use Rattle.wire.specs.Buffer.{part}
 use Rattle.wire.specs.Sum.{sum_of}
 use Rattle.wire.proofs.Cases.{by_choice}
@@ -23,7 +15,8 @@ use Rattle.love.specs.Form.{shortest, longest, stx, etx, filter_at, address_at, 
 use Rattle.love.specs.Frame.{byte_at, data_of, for_unit, checksum_right, parameter_of, sign_right, number_in, asked}
 use Rattle.love.specs.Stages.{order_write, order_by, order_in}
 use Rattle.love.specs.declared.frame.Order.{Order}
-use Rattle.love.specs.declared.frame.Order.TheVariants.{Silent, Refused, Probe, Read, Write}
+use Rattle.love.specs.declared.frame.Order.TheVariants.{Probe, Read, Write}
+use Rattle.love.specs.declared.frame.Refusal.{Refusal}
 use Rattle.love.proofs.Passes.{Formed, framed, framed_summed}
 use Rattle.love.proofs.Hosts.{host_frame}
 
@@ -32,21 +25,15 @@ pub record Carried (address : ℕ) (f : List ℕ) (order : Order) : Type 0 where
   pub formed : Formed f
   pub unit : for_unit address f ≡ true
   pub checked : checksum_right f ≡ true
-  pub orders : order_in (data_of f) ≡ order
+  pub orders : order_in (data_of f) ≡ Ok order
 
-abbrev pub Held : ℕ → List ℕ → Order → Type 0
-Held address f (Silent number) = Unit {0}
-Held address f (Refused number code) = Unit {0}
-Held address f Probe = Carried address f Probe
-Held address f (Read k) = Carried address f (Read k)
-Held address f (Write k word) = Carried address f (Write k word)
+abbrev pub Held : ℕ → List ℕ → Result Order Refusal → Type 0
+Held address f (Ok order) = Carried address f order
+Held address f (Err refusal) = Unit {0}
 
-hold : (address : ℕ) (f : List ℕ) (order : Order) → Carried address f order → Held address f order
-hold address f (Silent number) c = tt
-hold address f (Refused number code) c = tt
-hold address f Probe c = c
-hold address f (Read k) c = c
-hold address f (Write k word) c = c
+hold : (address : ℕ) (f : List ℕ) (asks : Result Order Refusal) → ((order : Order) → asks ≡ Ok order → Carried address f order) → Held address f asks
+hold address f (Ok order) c = c order refl
+hold address f (Err refusal) c = tt
 
 pub asked_held : (address : ℕ) (f : List ℕ) → Held address f (asked address f)
 unfolding asked order_in order_by order_write
@@ -58,16 +45,15 @@ asked_held address f =
     (λ figured. by_choice (Held address f) _ _ _
     (λ unit. by_choice (Held address f) _ _ _
     (λ checked. by_choice (Held address f) _ _ _
-    (λ _. hold address f (order_in (data_of f)) (record { formed = record { long = long; begins = begins; ends = ends; figured = figured }; unit = unit; checked = checked; orders = refl }))
+    (λ _. hold address f (order_in (data_of f)) (λ order e. record { formed = record { long = long; begins = begins; ends = ends; figured = figured }; unit = unit; checked = checked; orders = e }))
     (λ _. tt)) (λ _. tt)) (λ _. tt)) (λ _. tt)) (λ _. tt)) (λ _. tt)) (λ _. tt)
 
 -- what the data of such a frame are
-abbrev pub Shape : List ℕ → Order → Type 0
-Shape s (Silent number) = Unit {0}
-Shape s (Refused number code) = Unit {0}
-Shape s Probe = (length s ≡ status_length) × (byte_at hex s command_at ≡ status_command)
-Shape s (Read k) = ((length s ≡ read_length) × (byte_at hex s command_at ≡ read_command)) × ((parameter_of (byte_at hex s parameter_at) ≡ k) × (k < love_count))
-Shape s (Write k word) =
+abbrev pub Shape : List ℕ → Result Order Refusal → Type 0
+Shape s (Err refusal) = Unit {0}
+Shape s (Ok Probe) = (length s ≡ status_length) × (byte_at hex s command_at ≡ status_command)
+Shape s (Ok (Read k)) = ((length s ≡ read_length) × (byte_at hex s command_at ≡ read_command)) × ((parameter_of (byte_at hex s parameter_at) ≡ k) × (k < love_count))
+Shape s (Ok (Write k word)) =
     (((length s ≡ write_length) × (byte_at hex s command_at ≡ write_command)) × ((parameter_of (byte_at hex s parameter_at) ≡ k) × (k < love_count)))
     × ((all_figures decimal (part s value_at sign_at) ≡ true) × ((sign_right s ≡ true) × (number_in s ≡ word)))
 

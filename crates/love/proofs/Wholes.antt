@@ -1,13 +1,7 @@
 -- Love's receiver hands over every frame that is taken. Assumes nothing.
-use mathlib.Core.Path.{◌≡◌, refl, sym, ap, ◌∙◌, subst}
-use mathlib.Core.Bool.{true, false, not}
-use mathlib.Core.List.{List, [], ◌∷◌, ◌++◌}
-use Prim.Native.Nat.{ℕ, zero, suc, ◌+◌, ◌-◌, ◌/◌, ◌≤◌, ◌<◌}
+use Rattle.std.proofs.Common.{◌≡◌, refl, sym, ap, ◌∙◌, subst, true, false, not, List, [], ◌∷◌, ◌++◌, ℕ, zero, suc, ◌+◌, ◌-◌, ◌/◌, ◌≤◌, ◌<◌, arith, eqb-true, ne_eqb, eqb, length, get_or, length-append, Err}
 use native.Mathlib.Decide.{dec_lt}
-use native.Mathlib.Omega.{arith}
-use borrow.Author.Tests.{eqb-true, ne_eqb}
-use lib.Dec.{eqb}
-use lib.ListN.{length, get_or, length-append, get_or-append}
+use lib.ListN.{get_or-append}
 use lib.Seq.{get_or-append_seam}
 use Rattle.wire.specs.Buffer.{part}
 use Rattle.wire.specs.Sum.{sum_of}
@@ -24,7 +18,7 @@ use Rattle.card.specs.Numbers.{foreign_address, frame_form, check_character}
 use Rattle.love.specs.Form.{shortest, longest, stx, etx, filter_at, address_at, data_at, tail, letters, filter_of, checksum_error, illegal_character}
 use Rattle.love.specs.Frame.{data_of, for_unit, checksum_right, asked}
 use Rattle.love.specs.Receiver.{step}
-use Rattle.love.specs.declared.frame.Order.TheVariants.{Silent, Refused}
+use Rattle.love.specs.declared.frame.Refusal.TheVariants.{Silent, Refused}
 use Rattle.love.proofs.Receiver.{whole_plain}
 
 -- a byte that stands at no place of a list is not among it
@@ -108,7 +102,7 @@ whole_taken address (x ∷ r) k =
         (whole_plain x p k.first (not_among stx p (λ i l. (plain i l).0)) (not_among etx p (λ i l. (plain i l).1)) (omega (arith, m, k.long.1)))
 
 -- every frame that Love carries out
-pub whole_asked : (address : ℕ) (f : List ℕ) → ((n : ℕ) → asked address f ≡ Silent n → ⊥) → ((n code : ℕ) → asked address f ≡ Refused n code → ⊥) → Whole step f
+pub whole_asked : (address : ℕ) (f : List ℕ) → ((n : ℕ) → asked address f ≡ Err (Silent n) → ⊥) → ((n code : ℕ) → asked address f ≡ Err (Refused n code) → ⊥) → Whole step f
 unfolding asked
 whole_asked address f u r =
     let a = passed _ _ _ (u frame_form) in

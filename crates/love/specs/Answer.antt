@@ -1,5 +1,5 @@
 -- What the card answers, and what its words become. Document 01, "Love", last paragraph.
-use Rattle.std.specs.Prelude.{ℕ, ◌+◌, ◌%◌, List, [], ◌∷◌, ◌++◌, get_or, set}
+use Rattle.std.specs.Prelude.{ℕ, ◌+◌, ◌%◌, List, [], ◌∷◌, ◌++◌, Result, Ok, Err, get_or, set}
 use Rattle.wire.specs.Choose.{choose}
 use Rattle.wire.specs.Sum.{sum_of}
 use Rattle.figures.specs.Figure.{zero_char, pair_of}
@@ -15,7 +15,9 @@ use Rattle.card.specs.declared.probe.Reading.TheVariants.{Temperature, Fault}
 use Rattle.love.specs.Form.{stx, ack, filter_of}
 use Rattle.love.specs.Frame.{asked}
 use Rattle.love.specs.declared.frame.Order.{Order}
-use Rattle.love.specs.declared.frame.Order.TheVariants.{Silent, Refused, Probe, Read, Write}
+use Rattle.love.specs.declared.frame.Order.TheVariants.{Probe, Read, Write}
+use Rattle.love.specs.declared.frame.Refusal.{Refusal}
+use Rattle.love.specs.declared.frame.Refusal.TheVariants.{Silent, Refused}
 
 -- filter and address, which follow STX in every reply
 unfoldable pub unit_of : ℕ → List ℕ
@@ -79,13 +81,13 @@ probe_data Fault = status_data fault_char zero_char 0
 abbrev pub address_of : List ℕ → ℕ
 address_of words = get_or words love_address_at 0
 
--- the wire bytes and the words of each order; the probe is that of channel 0
-unfoldable pub obeyed : List ℕ → List ℕ → Order → WordsReply
-obeyed words memory (Silent number) = record { number = number; bytes = []; words = words }
-obeyed words memory (Refused number code) = record { number = number; bytes = error_reply (address_of words) code; words = words }
-obeyed words memory Probe = record { number = answered; bytes = normal_reply (address_of words) (probe_data (reading_of (get_or memory 0 0))); words = words }
-obeyed words memory (Read k) = record { number = answered; bytes = normal_reply (address_of words) (value_data (get_or words (love_at + k) 0)); words = words }
-obeyed words memory (Write k word) = record { number = answered; bytes = normal_reply (address_of words) written_data; words = set words (love_at + k) word }
+-- the wire bytes and the words of each refusal and each order; the probe is that of channel 0
+unfoldable pub obeyed : List ℕ → List ℕ → Result Order Refusal → WordsReply
+obeyed words memory (Err (Silent number)) = record { number = number; bytes = []; words = words }
+obeyed words memory (Err (Refused number code)) = record { number = number; bytes = error_reply (address_of words) code; words = words }
+obeyed words memory (Ok Probe) = record { number = answered; bytes = normal_reply (address_of words) (probe_data (reading_of (get_or memory 0 0))); words = words }
+obeyed words memory (Ok (Read k)) = record { number = answered; bytes = normal_reply (address_of words) (value_data (get_or words (love_at + k) 0)); words = words }
+obeyed words memory (Ok (Write k word)) = record { number = answered; bytes = normal_reply (address_of words) written_data; words = set words (love_at + k) word }
 
 -- what the card gives for a Love frame: memory and the port's row are as they were
 unfoldable pub love_reply : Card → ℕ → List ℕ → Reply

@@ -1,6 +1,6 @@
 -- What a Love frame asks of the unit at an address: document 01, "Love", "Order". A line of `asked` is a test, and the number and the error
 -- code if it fails.
-use Rattle.std.specs.Prelude.{ℕ, ◌+◌, ◌-◌, ◌%◌, Bool, ◌&&◌, ◌||◌, List, leb, ltb, eqb, length, get_or}
+use Rattle.std.specs.Prelude.{ℕ, ◌+◌, ◌-◌, ◌%◌, Bool, ◌&&◌, ◌||◌, List, Result, Ok, Err, leb, ltb, eqb, length, get_or}
 use Rattle.wire.specs.Choose.{choose}
 use Rattle.wire.specs.Buffer.{part}
 use Rattle.wire.specs.Sum.{sum_of}
@@ -12,15 +12,17 @@ use Rattle.card.specs.Layout.{love_at, love_count}
 use Rattle.card.specs.Fitness.{in_range, love_hundred}
 use Rattle.love.specs.Form.{length_right, stx, etx, filter_at, address_at, data_at, tail, filter_of, command_at, parameter_at, value_at, sign_at, status_command, read_command, write_command, sp1, sp2, allo, alhi, plus_sign, minus_sign, data_least, data_most, status_length, command_length, read_length, write_length, undefined_command, checksum_error, illegal_character, field_error, out_of_range}
 use Rattle.love.specs.declared.frame.Order.{Order}
-use Rattle.love.specs.declared.frame.Order.TheVariants.{Silent, Refused, Probe, Read, Write}
+use Rattle.love.specs.declared.frame.Order.TheVariants.{Probe, Read, Write}
+use Rattle.love.specs.declared.frame.Refusal.{Refusal}
+use Rattle.love.specs.declared.frame.Refusal.TheVariants.{Silent, Refused}
 
 -- a test, and the number if it fails; then no byte is sent
-abbrev pub silently : Bool → ℕ → Order → Order
-silently test number rest = choose test rest (Silent number)
+abbrev pub silently : Bool → ℕ → Result Order Refusal → Result Order Refusal
+silently test number rest = choose test rest (Err (Silent number))
 
 -- a test, and the number and the error code if it fails
-abbrev pub unless : Bool → ℕ → ℕ → Order → Order
-unless test number code rest = choose test rest (Refused number code)
+abbrev pub unless : Bool → ℕ → ℕ → Result Order Refusal → Result Order Refusal
+unless test number code rest = choose test rest (Err (Refused number code))
 
 -- a frame's data
 abbrev pub data_of : List ℕ → List ℕ
@@ -61,7 +63,7 @@ number_in characters = with_sign (eqb (byte_at hex characters sign_at) minus_sig
 -- - 00 needs d = 2, else 3, code 05. Any other with d below 4: 3, code 05.
 -- - 0100, 0102, 0104, 0105 read with d = 4; 0200, 0202, 0204, 0205 write with d = 10; else 5, code 01; a wrong d is 3, code 05.
 -- - Write: four decimal figures, then sign 00 or FF; else 7, code 05. Value outside: 7, code 06."
-unfoldable pub asked : ℕ → List ℕ → Order
+unfoldable pub asked : ℕ → List ℕ → Result Order Refusal
 asked address f =
     let characters = data_of f in
     let d = length characters in
@@ -78,15 +80,15 @@ asked address f =
     (unless (leb d data_most) frame_form field_error
     (choose (eqb command status_command)
     (unless (eqb d status_length) frame_form field_error
-    Probe)
+    (Ok Probe))
     (unless (leb command_length d) frame_form field_error
     (unless (ltb k love_count) command_unknown undefined_command
     (choose (eqb command read_command)
     (unless (eqb d read_length) frame_form field_error
-    (Read k))
+    (Ok (Read k)))
     (unless (eqb command write_command) command_unknown undefined_command
     (unless (eqb d write_length) frame_form field_error
     (unless (all_figures decimal (part characters value_at sign_at)) value_outside field_error
     (unless (sign_right characters) value_outside field_error
     (unless (in_range (love_at + k) (number_in characters)) value_outside out_of_range
-    (Write k (number_in characters)))))))))))))))))))
+    (Ok (Write k (number_in characters))))))))))))))))))))

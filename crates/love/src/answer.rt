@@ -11,8 +11,8 @@ ghost use Rattle.love.specs.Form.{stx, ack, filter_at, data_at, tail};
 ghost use Rattle.love.specs.Stages.{Sound};
 ghost use Rattle.love.specs.Answer.{unit_of, error_reply, normal_reply, written_data, sign_of, value_data, status_data, probe_data, address_of, obeyed};
 
-use crate::form::Love;
-use crate::frame::Order;
+use crate::form::{Address, Love};
+use crate::frame::{Order, Refusal};
 use card::Outcome;
 use card::fitness::LOVE_HUNDRED;
 use card::layout::{LOVE, LOVE_ADDRESS};
@@ -44,17 +44,17 @@ pub const FAULT: u8 = b'D';
 
 pub const BELOW_ZERO: u8 = b'2';
 
-// Writes what begins every reply, and every frame: STX, filter and address.
-pub fn put_unit(out: &mut [u8], address: u32)
-    requires { (address ≤ love_address_most) × (data_at ≤ length out.old) }
-    ensures { Wrote (stx ∷ unit_of address) out.old data_at out.new }
+// Writes what begins every reply, and every frame: STX, filter and address. The cast loses nothing: the remainder fits a byte.
+pub fn put_unit(out: &mut [u8], address: Address)
+    requires { data_at ≤ length out.old }
+    ensures { Wrote (stx ∷ unit_of address.value) out.old data_at out.new }
 {
     out[0] = Love::STX;
     out[Love::FILTER] = Love::filter(address);
-    figures::put_pair(out, Love::ADDRESS, (address % LOVE_HUNDRED) as u8);
+    figures::put_pair(out, Love::ADDRESS, (address.value % LOVE_HUNDRED) as u8);
 }
 
-// Writes what ends a normal reply whose data ends before index end: checksum and ACK.
+// Writes what ends a normal reply whose data ends before index end: checksum and ACK. An index, and no struct round the lent buffer.
 fn put_end(out: &mut [u8], end: usize) -> usize
     requires { (data_at ≤ end) × (end + tail ≤ length out.old) }
     ensures { (result ≡ end + tail) × (out.new ≡ put out.old end (pair_of (sum_of (part out.old filter_at end)) ++ (ack ∷ []))) }
@@ -65,10 +65,10 @@ fn put_end(out: &mut [u8], end: usize) -> usize
     end + Love::TAIL
 }
 
-// Writes an error reply.
-pub fn put_error(out: &mut [u8], address: u32, code: u8) -> usize
-    requires { (address ≤ love_address_most) × (room_least ≤ length out.old) }
-    ensures { Wrote (error_reply address code) out.old result out.new }
+// Writes an error reply. The buffer is the one that C lends, of any length from 38 on: so its room is a clause here and below, and no type.
+pub fn put_error(out: &mut [u8], address: Address, code: u8) -> usize
+    requires { room_least ≤ length out.old }
+    ensures { Wrote (error_reply address.value code) out.old result out.new }
 {
     put_unit(out, address);
     out[Love::DATA] = ERROR;
@@ -78,10 +78,10 @@ pub fn put_error(out: &mut [u8], address: u32, code: u8) -> usize
     end + 1
 }
 
-// Writes the reply to a write.
-pub fn put_written(out: &mut [u8], address: u32) -> usize
-    requires { (address ≤ love_address_most) × (room_least ≤ length out.old) }
-    ensures { Wrote (normal_reply address written_data) out.old result out.new }
+// Writes the reply to a write. This and the next two each have their own data between put_unit and put_end, which they share.
+pub fn put_written(out: &mut [u8], address: Address) -> usize
+    requires { room_least ≤ length out.old }
+    ensures { Wrote (normal_reply address.value written_data) out.old result out.new }
 {
     put_unit(out, address);
     figures::put_pair(out, Love::DATA, WRITTEN);
@@ -96,9 +96,9 @@ fn sign_of(word: u32) -> u8
 }
 
 // Writes the reply to a read.
-pub fn put_value(out: &mut [u8], address: u32, word: u32) -> usize
-    requires { (address ≤ love_address_most) × (room_least ≤ length out.old) }
-    ensures { Wrote (normal_reply address (value_data word)) out.old result out.new }
+pub fn put_value(out: &mut [u8], address: Address, word: u32) -> usize
+    requires { room_least ≤ length out.old }
+    ensures { Wrote (normal_reply address.value (value_data word)) out.old result out.new }
 {
     put_unit(out, address);
     figures::put_pair(out, Love::DATA, sign_of(word));
@@ -108,9 +108,9 @@ pub fn put_value(out: &mut [u8], address: u32, word: u32) -> usize
 }
 
 // Writes the reply to 00.
-pub fn put_status(out: &mut [u8], address: u32, first: u8, fourth: u8, number: u32) -> usize
-    requires { (address ≤ love_address_most) × (room_least ≤ length out.old) }
-    ensures { Wrote (normal_reply address (status_data first fourth number)) out.old result out.new }
+pub fn put_status(out: &mut [u8], address: Address, first: u8, fourth: u8, number: u32) -> usize
+    requires { room_least ≤ length out.old }
+    ensures { Wrote (normal_reply address.value (status_data first fourth number)) out.old result out.new }
 {
     put_unit(out, address);
     out[Love::DATA] = first;
@@ -121,10 +121,10 @@ pub fn put_status(out: &mut [u8], address: u32, first: u8, fourth: u8, number: u
     put_end(out, Love::DATA + STATUS_SIZE + FIGURES)
 }
 
-// Answers 00 by a probe's code: the temperature is taken out of the reading, or the fault is answered.
-fn put_probe(out: &mut [u8], address: u32, code: u8) -> usize
-    requires { (address ≤ love_address_most) × (room_least ≤ length out.old) }
-    ensures { Wrote (normal_reply address (probe_data (reading_of code))) out.old result out.new }
+// Answers 00 by a probe's code: the temperature is taken out of the reading, or the fault is answered. Document 01 names this form.
+fn put_probe(out: &mut [u8], address: Address, code: u8) -> usize
+    requires { room_least ≤ length out.old }
+    ensures { Wrote (normal_reply address.value (probe_data (reading_of code))) out.old result out.new }
 {
     let Reading::Temperature(tenths) = read_code(code) else {
         return put_status(out, address, FAULT, ZERO, 0);
@@ -142,33 +142,41 @@ fn store(words: &mut [u32], k: usize, word: u32)
     words[LOVE + k] = word;
 }
 
-// Carries out an order on the words of a fit card.
-pub fn obey(words: &mut [u32], memory: &[u8], order: Order, out: &mut [u8]) -> Outcome
+// Carries out what a frame asks on the words of a fit card, or refuses it.
+// One match: each case has its own reply. The number is one of document 01, as `nk_love` hands it to C.
+pub fn obey(
+    words: &mut [u32],
+    memory: &[u8],
+    order: Result<Order, Refusal>,
+    out: &mut [u8],
+) -> Outcome
     requires { (Sound order × ((length words.old ≡ word_count) × (address_of words.old ≤ love_address_most))) × ((length memory.now ≡ memory_size) × (room_least ≤ length out.old)) }
     ensures { GaveWords (obeyed words.old memory.now order) out.old result.number result.len words.new out.new }
 {
-    let address = words[LOVE_ADDRESS];
+    let address = Address {
+        value: words[LOVE_ADDRESS],
+    };
     match order {
-        Order::Silent(number) => Outcome { number, len: 0 },
-        Order::Refused(number, code) => {
+        Err(Refusal::Silent(number)) => Outcome { number, len: 0 },
+        Err(Refusal::Refused(number, code)) => {
             let len = put_error(out, address, code);
             Outcome { number, len }
         }
-        Order::Probe => {
+        Ok(Order::Probe) => {
             let len = put_probe(out, address, memory[0]);
             Outcome {
                 number: ANSWERED,
                 len,
             }
         }
-        Order::Read(k) => {
+        Ok(Order::Read(k)) => {
             let len = put_value(out, address, words[LOVE + k]);
             Outcome {
                 number: ANSWERED,
                 len,
             }
         }
-        Order::Write(k, word) => {
+        Ok(Order::Write(k, word)) => {
             store(words, k, word);
             let len = put_written(out, address);
             Outcome {

@@ -1,18 +1,33 @@
 // The dialect's type: its shortest and longest frame and the rest of its form, for frame checks and receivers. Document 01, "Love".
 ghost use Rattle.std.specs.Prelude.{◌≡◌, ◌≤◌};
 ghost use Rattle.card.specs.Fitness.{love_address_most};
-ghost use Rattle.love.specs.Form.{length_right, filter_of};
+ghost use Rattle.love.specs.Form.{shortest, longest, filter_of};
 
 use card::fitness::LOVE_HUNDRED;
+use receiver::Frames;
 
 #[derive(Clone, Copy)]
 pub struct Love {}
 
-impl Love {
-    // "Numbers returned", last lines.
-    pub const SHORTEST: usize = 7;
+// The address of a unit.
+#[derive(Clone, Copy)]
+pub struct Address {
+    pub value: u32,
+    pub ghost right: { value ≤ love_address_most },
+}
 
-    pub const LONGEST: usize = 32;
+// "Numbers returned", last lines.
+impl Frames for Love {
+    const SHORTEST: usize = 7;
+
+    const LONGEST: usize = 32;
+
+    ghost SHORTEST = { shortest };
+
+    ghost LONGEST = { longest };
+}
+
+impl Love {
     // The bytes that begin and end a frame, and end a reply.
     pub const STX: u8 = 0x02;
 
@@ -38,23 +53,23 @@ impl Love {
 
     pub const SIGN: usize = 8;
     // The first half: 00, 01.. and 02..
-    pub const STATUS: u32 = 0x00;
+    pub const STATUS: u8 = 0x00;
 
-    pub const READ: u32 = 0x01;
+    pub const READ: u8 = 0x01;
 
-    pub const WRITE: u32 = 0x02;
+    pub const WRITE: u8 = 0x02;
     // The second half: ..00, ..02, ..04 and ..05.
-    pub const SP1: u32 = 0x00;
+    pub const SP1: u8 = 0x00;
 
-    pub const SP2: u32 = 0x02;
+    pub const SP2: u8 = 0x02;
 
-    pub const ALLO: u32 = 0x04;
+    pub const ALLO: u8 = 0x04;
 
-    pub const ALHI: u32 = 0x05;
+    pub const ALHI: u8 = 0x05;
     // The signs of a write.
-    pub const PLUS: u32 = 0x00;
+    pub const PLUS: u8 = 0x00;
 
-    pub const MINUS: u32 = 0xFF;
+    pub const MINUS: u8 = 0xFF;
     // Data lengths: the least and the most, that of 00, the least of any other command, and those of a read and of a write.
     pub const DATA_LEAST: usize = 2;
 
@@ -67,7 +82,7 @@ impl Love {
     pub const READ_LENGTH: usize = 4;
 
     pub const WRITE_LENGTH: usize = 10;
-    // Error codes, by source document 004's names.
+    // Error codes, by source document 004's names. No enum: they are bytes of the wire, which are written and compared as they are.
     pub const UNDEFINED_COMMAND: u8 = 0x01;
 
     pub const CHECKSUM_ERROR: u8 = 0x02;
@@ -78,20 +93,12 @@ impl Love {
 
     pub const OUT_OF_RANGE: u8 = 0x06;
 
-    // Whether a frame may be n bytes long.
-    pub(crate) fn fits(n: usize) -> bool
-        ensures { result ≡ length_right n }
-    {
-        (Love::SHORTEST <= n) & (n <= Love::LONGEST)
-    }
-
     // The filter character: one of the four letters, by the address's hundreds.
-    pub(crate) fn filter(address: u32) -> u8
-        requires { address ≤ love_address_most }
-        ensures { result ≡ filter_of address }
+    pub(crate) fn filter(address: Address) -> u8
+        ensures { result ≡ filter_of address.value }
     {
         let letters = b"LOVE";
-        let hundreds = (address / LOVE_HUNDRED) as usize;
+        let hundreds = (address.value / LOVE_HUNDRED) as usize;
         letters[hundreds]
     }
 }

@@ -14,6 +14,7 @@ ghost use Rattle.love.specs.Answer.{love_reply};
 use card::layout::LOVE_ADDRESS;
 use card::numbers::ANSWERED;
 use card::{Outcome, ROOM_LEAST};
+use form::Address;
 
 // A Love frame f reaches the card; the answer goes to the front of out.
 pub fn love(words: &mut [u32], memory: &[u8], ports: &[u8], f: &[u8], out: &mut [u8]) -> Outcome
@@ -27,6 +28,9 @@ pub fn love(words: &mut [u32], memory: &[u8], ports: &[u8], f: &[u8], out: &mut 
     if number != ANSWERED {
         return Outcome { number, len: 0 };
     }
-    let order = frame::order_of(&sheet, words[LOVE_ADDRESS], f);
+    let address = Address {
+        value: words[LOVE_ADDRESS],
+    };
+    let order = frame::order_of(&sheet, address, f);
     answer::obey(words, memory, order, out)
 }

@@ -262,6 +262,11 @@ status_settled address r n l g b =
     inr (status_figures address r w k.0, status_word_law address r w k.0 k.1 b))
     (status_or address r w b))
 
+-- a reply to 00 has one length
+pub status_whole : (address first fourth number : ℕ) → length (normal_reply address (status_data first fourth number)) ≡ status_reply_length
+unfolding normal_reply unit_of pair_of status_data digits
+status_whole address first fourth number = refl
+
 -- a reply of another length to 00
 pub status_length_law : (address : ℕ) (r : List ℕ) → (length r ≡ status_reply_length → ⊥) → heard_status address r ≡ Unread frame_form
 unfolding heard_status probe_data status_data digits

@@ -1,3 +1,4 @@
 pub mod Request
 pub mod Heard
 pub mod Stages
+pub mod Writes

@@ -12,25 +12,22 @@ ghost use Rattle.love_master.specs.Request.{askable, half_of, sign_of, data_of, 
 use crate::request::{Request, Task};
 use love::answer;
 use love::answer::FIGURES;
-use love::form::Love;
+use love::form::{Address, Love};
 
 // The longest frame that is made: a write.
 pub(crate) const LONGEST: usize = Love::DATA + Love::WRITE_LENGTH + Love::TAIL;
 
 // The second half of a command, by the parameter's place.
+#[tactic(auto, using(wire::proofs::Cases::cases), unfolding(crate::specs::Request::half_of))]
 fn half_of(place: u32) -> u8
     ensures { result ≡ half_of place }
 {
-    if place == 0 {
-        return Love::SP1 as u8;
+    match place {
+        0 => Love::SP1,
+        1 => Love::SP2,
+        2 => Love::ALLO,
+        _ => Love::ALHI,
     }
-    if place == 1 {
-        return Love::SP2 as u8;
-    }
-    if place == 2 {
-        return Love::ALLO as u8;
-    }
-    Love::ALHI as u8
 }
 
 // Writes a number of a write: four figures, then its sign.
@@ -39,7 +36,7 @@ fn put_number(out: &mut [u8], at: usize, value: u32)
     ensures { out.new ≡ put out.old at (digits figure_count (magnitude value) ++ pair_of (sign_of value)) }
 {
     figures::put_digits(out, at, FIGURES, figures::magnitude(value));
-    let sign = figures::by_sign(value, Love::MINUS as u8, Love::PLUS as u8);
+    let sign = figures::by_sign(value, Love::MINUS, Love::PLUS);
     figures::put_pair(out, at + FIGURES, sign);
 }
 
@@ -50,16 +47,16 @@ fn put_data(out: &mut [u8], task: Task) -> usize
 {
     match task {
         Task::Status => {
-            figures::put_pair(out, Love::DATA, Love::STATUS as u8);
+            figures::put_pair(out, Love::DATA, Love::STATUS);
             Love::DATA + Love::STATUS_LENGTH
         }
         Task::Read(place) => {
-            figures::put_pair(out, Love::DATA, Love::READ as u8);
+            figures::put_pair(out, Love::DATA, Love::READ);
             figures::put_pair(out, Love::DATA + Love::PARAMETER, half_of(place));
             Love::DATA + Love::READ_LENGTH
         }
         Task::Write(place, value) => {
-            figures::put_pair(out, Love::DATA, Love::WRITE as u8);
+            figures::put_pair(out, Love::DATA, Love::WRITE);
             figures::put_pair(out, Love::DATA + Love::PARAMETER, half_of(place));
             put_number(out, Love::DATA + Love::VALUE, value);
             Love::DATA + Love::WRITE_LENGTH
@@ -72,7 +69,10 @@ pub(crate) fn put_frame(out: &mut [u8], request: Request) -> usize
     requires { (askable request ≡ true) × (made_longest ≤ length out.old) }
     ensures { Wrote (made request) out.old result out.new }
 {
-    answer::put_unit(out, request.address);
+    let address = Address {
+        value: request.address,
+    };
+    answer::put_unit(out, address);
     let task = request.task;
     let end = put_data(out, task);
     let sum = wire::sum(&out[Love::ADDRESS..end]);

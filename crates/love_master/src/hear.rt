@@ -1,28 +1,26 @@
 // What the master hears in a reply. The reply's length comes first: it decides which kinds are possible.
-ghost use Rattle.std.specs.Prelude.{◌≡◌, ◌+◌, ◌<◌, ◌≤◌, true, [], ◌∷◌, length};
+ghost use Rattle.std.specs.Prelude.{◌≡◌, ◌+◌, ℕ, ◌<◌, ◌≤◌, true, List, [], ◌∷◌, length};
 ghost use Rattle.figures.specs.Figure.{decimal, all_figures};
 ghost use Rattle.figures.specs.Decimal.{value_of};
 ghost use Rattle.card.specs.Layout.{love_count};
-ghost use Rattle.card.specs.Fitness.{love_address_most};
 ghost use Rattle.card.specs.Numbers.{frame_form};
-ghost use Rattle.asking.specs.Hearing.{hearing_of, heard_by};
-ghost use Rattle.asking.specs.Hearing.Hearing.{Gives, Done, Unread};
+ghost use Rattle.asking.specs.Hearing.{said_of, hearing_of, heard_by};
+ghost use Rattle.asking.specs.Hearing.Hearing.{Done, Unread as Nothing};
 ghost use Rattle.asking.specs.Against.{against};
-ghost use Rattle.love.specs.Answer.{figure_count, written_data, value_data, status_data};
+ghost use Rattle.love.specs.Answer.{figure_count, written_data};
 ghost use Rattle.love_master.specs.Request.{askable};
 ghost use Rattle.love_master.specs.Heard.{check_back, check_size, is_code, figures_at, heard_data, heard_value, heard_status, heard};
 ghost use Rattle.love_master.specs.Stages.{error_length, status_reply_length, heard_error, heard_temperature};
+ghost use Rattle.love_master.specs.Writes.{Writes, WritesSome};
 
 use crate::request::{Request, Task};
-use asking::Heard;
+use asking::{Heard, Unread};
 use card::layout::LOVE;
-use card::numbers::FRAME_FORM;
 use card::{ROOM_LEAST, fitness};
 use figures::ZERO;
 use love::answer;
 use love::answer::{BELOW_ZERO, FAULT, FIGURES, FINE, STATUS_SIZE};
-use love::form::Love;
-use std::num::{wrapping_sub_u8, wrapping_sub_u32};
+use love::form::{Address, Love};
 
 // The two checksum figures, and where they stand, counted from the end.
 const CHECK_SIZE: usize = 2;
@@ -64,7 +62,7 @@ fn number_of(a: u8, b: u8, c: u8, d: u8) -> u32
 {
     let high = THOUSAND * a as u32 + HUNDRED * b as u32;
     let low = TEN * c as u32 + d as u32;
-    wrapping_sub_u32(high + low, ZEROS)
+    (high + low).wrapping_sub(ZEROS)
 }
 
 // The number that four figures from an index on are.
@@ -76,138 +74,126 @@ fn number_at(reply: &[u8], at: usize) -> u32
 }
 
 // Whether this is one of the error codes.
+#[tactic(auto, using(wire::proofs::Cases::cases), unfolding(crate::specs::Heard::is_code))]
 fn is_code(code: u8) -> bool
     ensures { result ≡ is_code code }
 {
-    (code == Love::UNDEFINED_COMMAND)
-        | ((code == Love::CHECKSUM_ERROR)
-            | ((code == Love::ILLEGAL_CHARACTER)
-                | ((code == Love::FIELD_ERROR) | (code == Love::OUT_OF_RANGE))))
+    matches!(
+        code,
+        Love::UNDEFINED_COMMAND
+            | Love::CHECKSUM_ERROR
+            | Love::ILLEGAL_CHARACTER
+            | Love::FIELD_ERROR
+            | Love::OUT_OF_RANGE
+    )
 }
 
 // A reply as long as an error reply: the code is taken from its second character, the rest is seen in the comparison.
-fn hear_error(address: u32, reply: &[u8]) -> Heard
-    requires { (address ≤ love_address_most) × (length reply.now ≡ error_length) }
-    ensures { hearing_of result ≡ heard_error address reply.now (Unread frame_form) }
+// Its own scratch, and not `compared`: an error reply has no check characters, so all of it is compared at once.
+fn hear_error(address: Address, reply: &[u8]) -> Result<Heard, Unread>
+    requires { length reply.now ≡ error_length }
+    ensures { hearing_of result ≡ heard_error address.value reply.now (Nothing frame_form) }
 {
-    let code = wrapping_sub_u8(reply[CODE_LAST], ZERO);
+    let code = reply[CODE_LAST].wrapping_sub(ZERO);
     if !is_code(code) {
-        return Heard::Unread(FRAME_FORM);
+        return Err(Unread::Form);
     }
     let mut expected = [0u8; ROOM_LEAST];
     let len = answer::put_error(&mut expected, address, code);
     if !wire::is_same(reply, &expected[..len]) {
-        return Heard::Unread(FRAME_FORM);
+        return Err(Unread::Form);
     }
-    Heard::RefusedFor(code)
+    Ok(Heard::RefusedFor(code))
 }
 
-// A reply against a normal one, which says this.
-fn compared(reply: &[u8], expected: &[u8], said: Heard) -> Heard
-    requires { check_back ≤ length expected.now }
-    ensures { hearing_of result ≡ heard_by (against check_back check_size reply.now expected.now) (hearing_of said) }
+// A reply against the normal one that is written, which says this. The array is cut to its length as soon as it is written, as above.
+fn compared<W: FnOnce(&mut [u8]) -> usize>(
+    reply: &[u8],
+    write: W,
+    said: Heard,
+) -> Result<Heard, Unread>
+    requires { WritesSome W.FnOnce write }
+    ensures { (answer : List ℕ) → Writes W.FnOnce write answer → hearing_of result ≡ heard_by (against check_back check_size reply.now answer) (said_of said) }
 {
-    let number = asking::compare(reply, expected, CHECK_BACK, CHECK_SIZE);
-    asking::heard_by(number, said)
+    let mut expected = [0u8; ROOM_LEAST];
+    let len = write(&mut expected);
+    asking::hear_answer(reply, &expected[..len], CHECK_BACK, CHECK_SIZE, said)
 }
 
 // A reply to a write.
-fn hear_written(address: u32, reply: &[u8]) -> Heard
-    requires { address ≤ love_address_most }
-    ensures { hearing_of result ≡ heard_data address reply.now written_data Done }
+fn hear_written(address: Address, reply: &[u8]) -> Result<Heard, Unread>
+    ensures { hearing_of result ≡ heard_data address.value reply.now written_data Done }
 {
     if reply.len() != WRITTEN_LENGTH {
-        return Heard::Unread(FRAME_FORM);
+        return Err(Unread::Form);
     }
-    let mut expected = [0u8; ROOM_LEAST];
-    let len = answer::put_written(&mut expected, address);
-    compared(reply, &expected[..len], Heard::Done)
-}
-
-// A reply against the one to a read that finds this word.
-fn compare_value(address: u32, word: u32, reply: &[u8]) -> Heard
-    requires { address ≤ love_address_most }
-    ensures { hearing_of result ≡ heard_data address reply.now (value_data word) (Gives (word ∷ [])) }
-{
-    let mut expected = [0u8; ROOM_LEAST];
-    let len = answer::put_value(&mut expected, address, word);
-    compared(reply, &expected[..len], Heard::Value(word))
+    compared(reply, |out| answer::put_written(out, address), Heard::Done)
 }
 
 // A reply to a read of the parameter at a place.
-fn hear_value(address: u32, place: u32, reply: &[u8]) -> Heard
-    requires { (address ≤ love_address_most) × (place < love_count) }
-    ensures { hearing_of result ≡ heard_value address place reply.now }
+fn hear_value(address: Address, place: u32, reply: &[u8]) -> Result<Heard, Unread>
+    requires { place < love_count }
+    ensures { hearing_of result ≡ heard_value address.value place reply.now }
 {
     if reply.len() != VALUE_LENGTH {
-        return Heard::Unread(FRAME_FORM);
+        return Err(Unread::Form);
     }
     let number = number_at(reply, Love::DATA + Love::PAIR);
     let word = figures::with_sign(reply[SIGN_LAST] == NEGATIVE, number);
     if !fitness::in_range(LOVE + place as usize, word) {
-        return Heard::Unread(FRAME_FORM);
+        return Err(Unread::Form);
     }
-    compare_value(address, word, reply)
-}
-
-// A reply against the one to 00 that has these characters and this number.
-fn compare_status(
-    address: u32,
-    first: u8,
-    fourth: u8,
-    number: u32,
-    reply: &[u8],
-    said: Heard,
-) -> Heard
-    requires { address ≤ love_address_most }
-    ensures { hearing_of result ≡ heard_data address reply.now (status_data first fourth number) (hearing_of said) }
-{
-    let mut expected = [0u8; ROOM_LEAST];
-    let len = answer::put_status(&mut expected, address, first, fourth, number);
-    compared(reply, &expected[..len], said)
+    compared(
+        reply,
+        |out| answer::put_value(out, address, word),
+        Heard::Value(word),
+    )
 }
 
 // A reply to 00 that shows no fault.
-fn hear_temperature(address: u32, reply: &[u8]) -> Heard
-    requires { (address ≤ love_address_most) × (length reply.now ≡ status_reply_length) }
-    ensures { hearing_of result ≡ heard_temperature address reply.now }
+fn hear_temperature(address: Address, reply: &[u8]) -> Result<Heard, Unread>
+    requires { length reply.now ≡ status_reply_length }
+    ensures { hearing_of result ≡ heard_temperature address.value reply.now }
 {
     let number = number_at(reply, Love::DATA + STATUS_SIZE);
     let word = figures::with_sign(reply[STATUS_SIGN] == BELOW_ZERO, number);
     if !asking::is_temperature(1, word) {
-        return Heard::Unread(FRAME_FORM);
+        return Err(Unread::Form);
     }
     let fourth = figures::by_sign(word, BELOW_ZERO, ZERO);
-    compare_status(
-        address,
-        FINE,
-        fourth,
-        figures::magnitude(word),
+    let size = figures::magnitude(word);
+    compared(
         reply,
+        |out| answer::put_status(out, address, FINE, fourth, size),
         Heard::Value(word),
     )
 }
 
 // A reply to 00.
-fn hear_status(address: u32, reply: &[u8]) -> Heard
-    requires { address ≤ love_address_most }
-    ensures { hearing_of result ≡ heard_status address reply.now }
+fn hear_status(address: Address, reply: &[u8]) -> Result<Heard, Unread>
+    ensures { hearing_of result ≡ heard_status address.value reply.now }
 {
     if reply.len() != STATUS_LENGTH {
-        return Heard::Unread(FRAME_FORM);
+        return Err(Unread::Form);
     }
     if reply[Love::DATA] == FAULT {
-        return compare_status(address, FAULT, ZERO, 0, reply, Heard::Fault);
+        return compared(
+            reply,
+            |out| answer::put_status(out, address, FAULT, ZERO, 0),
+            Heard::Fault,
+        );
     }
     hear_temperature(address, reply)
 }
 
 // What is heard in a reply to a request that 7 does not refuse.
-pub(crate) fn hear(request: Request, reply: &[u8]) -> Heard
+pub(crate) fn hear(request: Request, reply: &[u8]) -> Result<Heard, Unread>
     requires { askable request ≡ true }
     ensures { hearing_of result ≡ heard request reply.now }
 {
-    let address = request.address;
+    let address = Address {
+        value: request.address,
+    };
     if reply.len() == ERROR_LENGTH {
         return hear_error(address, reply);
     }

@@ -7,7 +7,7 @@ use card::fitness;
 use card::layout::{LOVE, LOVE_COUNT};
 
 // To ask for probe 0 and its status; to read a parameter; or to write one, in tenths and two's complement. A parameter is its place: 0 to 3 for
-// SP1, SP2, ALLO, ALHI.
+// SP1, SP2, ALLO, ALHI. Numbers, since C and the console hand them over as they came; `is_askable` judges them.
 #[derive(Clone, Copy)]
 pub enum Task {
     Status,

@@ -1,16 +1,15 @@
 -- The channels that a mask names. Assumes nothing.
-use mathlib.Core.Path.{◌≡◌, refl, sym, ◌∙◌}
-use mathlib.Core.List.{List, [], ◌∷◌}
-use Prim.Native.Nat.{ℕ, suc, ◌+◌, ◌-◌, ◌/◌, ◌%◌, ◌≤◌, ◌<◌}
-use native.Mathlib.Nat.{add-zero}
-use native.Mathlib.Numerals.{add-one}
-use native.Mathlib.Omega.{arith}
-use borrow.Author.Tests.{eqb-true, eqb-false, eq-eqb, ne_eqb}
-use lib.Dec.{eqb}
-use lib.ListN.{length}
+use Rattle.std.proofs.Common.{◌≡◌, refl, sym, ◌∙◌, List, [], ◌∷◌, true, false, ℕ, zero, suc, ◌+◌, ◌-◌, ◌/◌, ◌%◌, ◌^◌, ◌≤◌, ◌<◌, add-zero, count_ones, add-one, arith, eqb-true, eqb, length}
+use Rattle.std.specs.Int.Bits.{bit_and}
+use Rattle.std.specs.Int.Count.{ones}
+use Rattle.std.proofs.lemmas.Nat.{shr-shr, and_mask}
+use Rattle.wire.proofs.Sweep.{swept}
+use borrow.Author.Tests.{eqb-false}
 use Rattle.wire.proofs.Cases.{by_choice, yes, no}
 use Rattle.card.specs.Layout.{channels}
-use Rattle.lucid.specs.Form.{channels_from, channels_of}
+use Prim.{tt}
+use Rattle.lucid.specs.Form.{mask_most, channels_from, channels_of}
+use Rattle.lucid.specs.Answer.{named}
 
 -- one bit more
 length_next : (n k mask : ℕ) → length (channels_from (suc n) k mask) ≡ mask % 2 + length (channels_from n (suc k) (mask / 2))
@@ -35,25 +34,47 @@ count_channels mask =
     (length_next 1 2 (mask / 4) ∙ rw eighth)
     (length_next 0 3 (mask / 8) ∙ add-zero (mask / 8 % 2))
 
--- the channels still to come, from a channel on whose bit is the lowest one left
-abbrev pub channels_left : ℕ → ℕ → List ℕ
-channels_left channel left = channels_from (channels - channel) channel left
+-- the ones among the four low bits
+ones_of_four : (m : ℕ) → m < 16 → count_ones m ≡ m % 2 + m / 2 % 2 + m / 4 % 2 + m / 8 % 2
+unfolding ones
+ones_of_four m h = eqb-true _ _ (swept (λ k. eqb (count_ones k) (k % 2 + k / 2 % 2 + k / 4 % 2 + k / 8 % 2)) 16 tt m h)
 
-module _ (channel left : ℕ) (h : channel < channels) where
+pub count_ones_channels : (mask : ℕ) → (count_ones (bit_and mask mask_most) ≡ length (channels_of mask)) × (count_ones (bit_and mask mask_most) ≤ channels)
+count_ones_channels mask =
+    let low : bit_and mask mask_most ≡ mask % 16 = and_mask mask 4 in
+    let ones = ones_of_four (mask % 16) (omega arith) in
+    let bits : count_ones (mask % 16) ≡ mask % 2 + mask / 2 % 2 + mask / 4 % 2 + mask / 8 % 2 = omega arith in
+    rw low (bits ∙ sym (count_channels mask), omega arith)
+
+-- the channel's bit by a shift
+pub named_bit : (channel mask : ℕ) → named channel mask ≡ eqb (mask / 2 ^ channel % 2) 1
+unfolding named
+named_bit zero mask = let e : mask / 1 ≡ mask = omega arith in rw e
+named_bit (suc channel) mask = let e : 1 + channel ≡ suc channel = omega arith in named_bit channel (mask / 2) ∙ rw (shr-shr mask 1 channel, e)
+
+-- the channels still to come, from a channel on
+abbrev pub channels_left : ℕ → ℕ → List ℕ
+channels_left channel mask = channels_from (channels - channel) channel (mask / 2 ^ channel)
+
+module _ (channel mask : ℕ) (h : channel < channels) where
   one_fewer : channels - channel ≡ suc (channels - (channel + 1))
   one_fewer = omega arith
 
   -- the channel is named
-  pub channels_named : left % 2 ≡ 1 → channels_left channel left ≡ channel ∷ channels_left (channel + 1) (left / 2)
+  pub channels_named : named channel mask ≡ true → channels_left channel mask ≡ channel ∷ channels_left (channel + 1) mask
   unfolding channels_from
-  channels_named e = rw (one_fewer, add-one) (sym (yes _ _ _ _ (eq-eqb (left % 2) 1 e) refl))
+  channels_named e = rw (one_fewer, ← shr-shr mask channel 1, add-one) (sym (yes _ _ _ _ (sym (named_bit channel mask) ∙ e) refl))
 
   -- it is not
-  pub channels_passed : (left % 2 ≡ 1 → ⊥) → channels_left channel left ≡ channels_left (channel + 1) (left / 2)
+  pub channels_passed : named channel mask ≡ false → channels_left channel mask ≡ channels_left (channel + 1) mask
   unfolding channels_from
-  channels_passed n = rw (one_fewer, add-one) (sym (no _ _ _ _ (ne_eqb (left % 2) 1 n) refl))
+  channels_passed e = rw (one_fewer, ← shr-shr mask channel 1, add-one) (sym (no _ _ _ _ (sym (named_bit channel mask) ∙ e) refl))
+
+-- all are still to come before the first
+pub channels_first : (mask : ℕ) → channels_left 0 mask ≡ channels_of mask
+channels_first mask = let e : mask / 1 ≡ mask = omega arith in rw e
 
 -- none is left after the last
-pub channels_done : (channel left : ℕ) → channels ≤ channel → channels_left channel left ≡ []
+pub channels_done : (channel mask : ℕ) → channels ≤ channel → channels_left channel mask ≡ []
 unfolding channels_from
-channels_done channel left h = let e : channels - channel ≡ 0 = omega arith in rw e
+channels_done channel mask h = let e : channels - channel ≡ 0 = omega arith in rw e

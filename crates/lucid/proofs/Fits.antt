@@ -1,13 +1,6 @@
 -- A fit card stays fit, whatever LucidControl frame it gets. Assumes nothing.
-use mathlib.Core.Path.{◌≡◌, sym, ◌∙◌}
-use mathlib.Core.Bool.{Bool, true}
-use mathlib.Core.List.{List}
+use Rattle.std.proofs.Common.{Result, Ok, Err, ◌≡◌, sym, ◌∙◌, Bool, true, List, ℕ, zero, suc, ◌+◌, ◌/◌, ◌%◌, ◌≤◌, ◌<◌, arith, le-leb, eqb, get_or, set, length-set}
 use Prim.{tt}
-use Prim.Native.Nat.{ℕ, zero, suc, ◌+◌, ◌/◌, ◌%◌, ◌≤◌, ◌<◌}
-use native.Mathlib.Omega.{arith}
-use borrow.Author.Tests.{le-leb}
-use lib.Dec.{eqb}
-use lib.ListN.{get_or, set, length-set}
 use Rattle.wire.specs.Choose.{choose}
 use Rattle.wire.proofs.Cases.{by_choice}
 use Rattle.wire.proofs.Sweep.{swept}
@@ -22,7 +15,8 @@ use Rattle.lucid.specs.Frame.{asked, value_right}
 use Rattle.lucid.specs.Stages.{Sound}
 use Rattle.lucid.specs.Answer.{demanded, stored, default_of, reset, obeyed, lucid_reply}
 use Rattle.lucid.specs.declared.frame.Order.{Order}
-use Rattle.lucid.specs.declared.frame.Order.TheVariants.{Silent, Refused, GetIo, SetIo, GetParam, SetParam, Reset}
+use Rattle.lucid.specs.declared.frame.Order.TheVariants.{GetIo, SetIo, GetParam, SetParam, Reset}
+use Rattle.lucid.specs.declared.frame.Refusal.{Refusal}
 use Rattle.lucid.proofs.Frames.{asked_sound}
 
 -- a word in its range, stored
@@ -59,15 +53,14 @@ demanded_good (suc n) k mask f at ws h b g =
     (λ _. demanded_good n (suc k) (mask / 2) f (at + demand_size) _ (omega arith) b (good_set ws (demands_at + k) (number_at demand_size f at) g (demand_right f at k b (omega arith))))
     (λ _. demanded_good n (suc k) (mask / 2) f at ws (omega arith) b g)
 
-obeyed_good : (ws memory f : List ℕ) (order : Order) → Bytes f → Sound f order → Good ws → Good (obeyed ws memory f order).words
+obeyed_good : (ws memory f : List ℕ) (order : Result Order Refusal) → Bytes f → Sound f order → Good ws → Good (obeyed ws memory f order).words
 unfolding obeyed reset
-obeyed_good ws memory f (Silent number) b s g = g
-obeyed_good ws memory f (Refused number status) b s g = g
-obeyed_good ws memory f (GetIo valueType mask) b s g = g
-obeyed_good ws memory f (SetIo mask) b s g = demanded_good channels 0 mask f data_at ws (omega arith) b g
-obeyed_good ws memory f (GetParam place) b s g = g
-obeyed_good ws memory f (SetParam place saved value) b s g = stored_good place saved value ws s.0 s.1 g
-obeyed_good ws memory f (Reset place saved) b s g = stored_good place saved (default_of place) ws s (default_right place s) g
+obeyed_good ws memory f (Err refusal) b s g = g
+obeyed_good ws memory f (Ok (GetIo valueType mask)) b s g = g
+obeyed_good ws memory f (Ok (SetIo mask)) b s g = demanded_good channels 0 mask f data_at ws (omega arith) b g
+obeyed_good ws memory f (Ok (GetParam place)) b s g = g
+obeyed_good ws memory f (Ok (SetParam place saved value)) b s g = stored_good place saved value ws s.0 s.1 g
+obeyed_good ws memory f (Ok (Reset place saved)) b s g = stored_good place saved (default_of place) ws s (default_right place s) g
 
 pub stays_fit : (card : Card) (room : ℕ) (f : List ℕ) → Bytes f → fit card ≡ true → IsFit (lucid_reply card room f)
 unfolding lucid_reply

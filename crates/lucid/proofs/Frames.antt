@@ -1,13 +1,6 @@
 -- What is known of a LucidControl frame that was judged: its address and its value lie within it, and its order is sound. Assumes nothing.
-use mathlib.Core.Path.{◌≡◌, refl, sym, ap, ◌∙◌, subst}
-use mathlib.Core.Bool.{Bool, true, false}
-use mathlib.Core.List.{List}
+use Rattle.std.proofs.Common.{Result, Err, ◌≡◌, refl, sym, ap, ◌∙◌, subst, Bool, true, false, List, ℕ, ◌+◌, ◌*◌, ◌≤◌, ◌<◌, arith, ltb-true, eqb-true, eqb, length}
 use Prim.{tt}
-use Prim.Native.Nat.{ℕ, ◌+◌, ◌*◌, ◌≤◌, ◌<◌}
-use native.Mathlib.Omega.{arith}
-use borrow.Author.Tests.{ltb-true, eqb-true}
-use lib.Dec.{eqb}
-use lib.ListN.{length}
 use Rattle.wire.specs.Choose.{choose}
 use Rattle.wire.proofs.Cases.{by_choice}
 use Rattle.card.specs.Layout.{channels, parameter_count}
@@ -15,7 +8,8 @@ use Rattle.lucid.specs.Form.{length_right, data_at, value_at, set_param, get_par
 use Rattle.lucid.specs.Frame.{is_get, is_set, is_reset, opc_known, channel_right, type_writable, mask_of, len_for, address_in, value_in, place_of, value_right, asked, opc_in, p1_in, p2_in, len_in}
 use Rattle.lucid.specs.Stages.{parameter_asked, command_asked, option_asked, Sized, Addressed, Sound}
 use Rattle.lucid.specs.declared.frame.Order.{Order}
-use Rattle.lucid.specs.declared.frame.Order.TheVariants.{Refused}
+use Rattle.lucid.specs.declared.frame.Refusal.{Refusal}
+use Rattle.lucid.specs.declared.frame.Refusal.TheVariants.{Refused}
 
 module _ (p1 p2 : ℕ) (f : List ℕ) where
   set_addressed : Sized set_param p1 p2 f → Addressed set_param p1 p2 f
@@ -55,8 +49,8 @@ place_within channel address h = by_choice (λ (n : ℕ). n < parameter_count) _
 
 module _ (f : List ℕ) where
   -- a test, of which the other way is a refusal
-  or_refused : (t : Bool) (order : Order) (number status : ℕ) → (t ≡ true → Sound f order) → Sound f (choose t order (Refused number status))
-  or_refused t order number status p = by_choice (Sound f) t order (Refused number status) p (λ _. tt)
+  or_refused : (t : Bool) (order : Result Order Refusal) (number status : ℕ) → (t ≡ true → Sound f order) → Sound f (choose t order (Err (Refused number status)))
+  or_refused t order number status p = by_choice (Sound f) t order (Err (Refused number status)) p (λ _. tt)
 
   parameter_sound : (opc p1 p2 : ℕ) → p1 < channels → Sound f (parameter_asked opc p1 p2 f)
   unfolding parameter_asked

@@ -1,14 +1,7 @@
 -- What holds of every LucidControl reply: a refusal changes no table; a failed probe is answered by the fault reply, a group's too; the
 -- reply depends on the probes asked for alone. Assumes nothing.
-use mathlib.Core.Path.{◌≡◌, refl, ap}
-use mathlib.Core.Bool.{Bool, true, false, not}
-use mathlib.Core.List.{List, [], ◌∷◌}
-use Prim.Native.Nat.{ℕ, zero, suc, ◌+◌, ◌*◌, ◌/◌, ◌%◌, ◌^◌, ◌≤◌, ◌<◌}
-use native.Mathlib.Nat.{add-zero, zero-add, not-suc-le-zero, le_of_suc-le-suc}
-use native.Mathlib.Omega.{arith}
-use borrow.Author.Tests.{le-leb, eqb-false, not-true}
-use lib.Dec.{eqb, eqb→eq}
-use lib.ListN.{get_or}
+use Rattle.std.proofs.Common.{Result, Ok, Err, ◌≡◌, refl, ap, Bool, true, false, not, List, [], ◌∷◌, ℕ, zero, suc, ◌+◌, ◌*◌, ◌/◌, ◌%◌, ◌^◌, ◌≤◌, ◌<◌, add-zero, zero-add, not-suc-le-zero, le_of_suc-le-suc, arith, le-leb, eqb, eqb→eq, get_or}
+use borrow.Author.Tests.{eqb-false, not-true}
 use Rattle.wire.proofs.Tests.{and_true}
 use Rattle.wire.specs.Choose.{choose}
 use Rattle.wire.proofs.Cases.{by_choice}
@@ -25,18 +18,18 @@ use Rattle.lucid.specs.Form.{channels_from, channels_of, demand}
 use Rattle.lucid.specs.Frame.{asked}
 use Rattle.lucid.specs.Answer.{Values, Held, Failed, joined, group, hundredths_of, value_of, read, faulted, obeyed, lucid_reply, named, reads_probe, asks_probe}
 use Rattle.lucid.specs.declared.frame.Order.{Order}
-use Rattle.lucid.specs.declared.frame.Order.TheVariants.{Silent, Refused, GetIo, SetIo, GetParam, SetParam, Reset}
+use Rattle.lucid.specs.declared.frame.Order.TheVariants.{GetIo, SetIo, GetParam, SetParam, Reset}
+use Rattle.lucid.specs.declared.frame.Refusal.{Refusal}
 use Rattle.lucid.proofs.Writes.{value_fault}
 
-obeyed_keeps : (card : Card) (f : List ℕ) (order : Order) → Keeps card (on_words card (obeyed card.words card.memory f order))
+obeyed_keeps : (card : Card) (f : List ℕ) (order : Result Order Refusal) → Keeps card (on_words card (obeyed card.words card.memory f order))
 unfolding obeyed
-obeyed_keeps card f (Silent number) = record { kept = λ _. refl }
-obeyed_keeps card f (Refused number status) = record { kept = λ _. refl }
-obeyed_keeps card f (GetIo valueType mask) = record { kept = λ _. refl }
-obeyed_keeps card f (SetIo mask) = record { kept = λ h. let z : ⊥ = omega arith in absurd z }
-obeyed_keeps card f (GetParam place) = record { kept = λ _. refl }
-obeyed_keeps card f (SetParam place saved value) = record { kept = λ h. let z : ⊥ = omega arith in absurd z }
-obeyed_keeps card f (Reset place saved) = record { kept = λ h. let z : ⊥ = omega arith in absurd z }
+obeyed_keeps card f (Err refusal) = record { kept = λ _. refl }
+obeyed_keeps card f (Ok (GetIo valueType mask)) = record { kept = λ _. refl }
+obeyed_keeps card f (Ok (SetIo mask)) = record { kept = λ h. let z : ⊥ = omega arith in absurd z }
+obeyed_keeps card f (Ok (GetParam place)) = record { kept = λ _. refl }
+obeyed_keeps card f (Ok (SetParam place saved value)) = record { kept = λ h. let z : ⊥ = omega arith in absurd z }
+obeyed_keeps card f (Ok (Reset place saved)) = record { kept = λ h. let z : ⊥ = omega arith in absurd z }
 
 -- the entry on a fit card with room for the answer
 pub replied : (card : Card) (room : ℕ) (f : List ℕ) → fit card ≡ true → room_least ≤ room → lucid_reply card room f ≡ on_words card (obeyed card.words card.memory f (asked f))
@@ -69,20 +62,19 @@ group_fault value (suc n) k mask (suc channel) h b e =
     more : group value (channels_from n (suc k) (mask / 2)) ≡ Failed → group value (k ∷ channels_from n (suc k) (mask / 2)) ≡ Failed
     more r = rw r (joined_failed (value k))
 
-order_fault : (ws memory f : List ℕ) (order : Order) (channel : ℕ) → channel < channels → reads_probe order channel ≡ true → get_or memory channel 0 ≡ fault_code
+order_fault : (ws memory f : List ℕ) (order : Result Order Refusal) (channel : ℕ) → channel < channels → reads_probe order channel ≡ true → get_or memory channel 0 ≡ fault_code
     → obeyed ws memory f order ≡ leaving ws faulted
 unfolding obeyed reads_probe read reading_of choose
-order_fault ws memory f (Silent number) channel h r code = cc
-order_fault ws memory f (Refused number status) channel h r code = cc
-order_fault ws memory f (GetIo valueType mask) channel h r code =
+order_fault ws memory f (Err refusal) channel h r code = cc
+order_fault ws memory f (Ok (GetIo valueType mask)) channel h r code =
     let b = and_true (not (eqb valueType demand)) (named channel mask) r in
     let reading : reading_of (get_or memory channel 0) ≡ Fault = ap reading_of code in
     let failed = value_fault ws memory valueType channel (eqb-false valueType demand (not-true _ b.0)) reading in
     ap (λ (g : Values). leaving ws (read g)) (group_fault (value_of ws memory valueType) channels 0 mask channel h b.1 (rw zero-add failed))
-order_fault ws memory f (SetIo mask) channel h r code = cc
-order_fault ws memory f (GetParam place) channel h r code = cc
-order_fault ws memory f (SetParam place saved value) channel h r code = cc
-order_fault ws memory f (Reset place saved) channel h r code = cc
+order_fault ws memory f (Ok (SetIo mask)) channel h r code = cc
+order_fault ws memory f (Ok (GetParam place)) channel h r code = cc
+order_fault ws memory f (Ok (SetParam place saved value)) channel h r code = cc
+order_fault ws memory f (Ok (Reset place saved)) channel h r code = cc
 
 -- the probe of a channel at fault, asked for alone or in a group: unless 12 or 11 comes first, the fault reply (9, D0h) and nothing else
 pub fault : (card : Card) (room : ℕ) (f : List ℕ) (channel : ℕ) → channel < channels → asks_probe f channel ≡ true → get_or card.memory channel 0 ≡ fault_code
@@ -118,19 +110,18 @@ value_same ws memory memory' valueType channel same = by (eqb valueType demand) 
     by true e = rw e
     by false e = rw (e, same e)
 
-order_same : (ws memory memory' f : List ℕ) (order : Order) → ((channel : ℕ) → channel < channels → reads_probe order channel ≡ true → get_or memory channel 0 ≡ get_or memory' channel 0)
+order_same : (ws memory memory' f : List ℕ) (order : Result Order Refusal) → ((channel : ℕ) → channel < channels → reads_probe order channel ≡ true → get_or memory channel 0 ≡ get_or memory' channel 0)
     → obeyed ws memory f order ≡ obeyed ws memory' f order
 unfolding obeyed reads_probe
-order_same ws memory memory' f (Silent number) same = refl
-order_same ws memory memory' f (Refused number status) same = refl
-order_same ws memory memory' f (GetIo valueType mask) same =
+order_same ws memory memory' f (Err refusal) same = refl
+order_same ws memory memory' f (Ok (GetIo valueType mask)) same =
     ap (λ (g : Values). leaving ws (read g))
     (group_same (value_of ws memory valueType) (value_of ws memory' valueType) channels 0 mask
     (λ channel h b. rw zero-add (value_same ws memory memory' valueType channel (λ e. same channel h (rw (e, b))))))
-order_same ws memory memory' f (SetIo mask) same = refl
-order_same ws memory memory' f (GetParam place) same = refl
-order_same ws memory memory' f (SetParam place saved value) same = refl
-order_same ws memory memory' f (Reset place saved) same = refl
+order_same ws memory memory' f (Ok (SetIo mask)) same = refl
+order_same ws memory memory' f (Ok (GetParam place)) same = refl
+order_same ws memory memory' f (Ok (SetParam place saved value)) same = refl
+order_same ws memory memory' f (Ok (Reset place saved)) same = refl
 
 -- the reply depends on the codes of the probes asked for, and on no other byte of the memory
 pub asked_alone : (ws memory memory' f : List ℕ) → ((channel : ℕ) → channel < channels → asks_probe f channel ≡ true → get_or memory channel 0 ≡ get_or memory' channel 0)

@@ -1,5 +1,6 @@
 pub mod Channels
 pub mod Numbers
+pub mod Commands
 pub mod Frames
 pub mod Passing
 pub mod Writes

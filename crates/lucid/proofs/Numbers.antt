@@ -1,19 +1,7 @@
 -- Numbers of several bytes, the lowest first: what is read of a number's bytes is that number, and the other way round. Assumes nothing.
-use mathlib.Core.Path.{◌≡◌, refl}
-use mathlib.Core.List.{List, [], ◌∷◌, ◌++◌, append_assoc}
-use Prim.Native.Nat.{ℕ, zero, suc, ◌+◌, ◌*◌, ◌/◌, ◌%◌, ◌^◌, ◌≤◌, ◌<◌}
-use native.Mathlib.Nat.{add-zero, pow-suc}
-use native.Mathlib.Numerals.{add-one}
-use native.Mathlib.Omega.{arith}
-use lib.ListN.{length, take, drop, get_or, length-append}
-use lib.Seq.{drop-cons, get_or-append-add}
+use Rattle.std.proofs.Common.{◌≡◌, refl, List, [], ◌∷◌, ◌++◌, append_assoc, ℕ, zero, suc, ◌+◌, ◌*◌, ◌/◌, ◌%◌, ◌^◌, ◌≤◌, ◌<◌, add-zero, pow-suc, add-one, arith, length, take, drop, get_or, length-append, drop-cons, get_or-append-add}
 use Rattle.wire.specs.Sum.{byte_values}
-use Rattle.lucid.specs.Form.{pair_size, parameter_size, little, number_at}
-
--- four bytes are two and two
-pub number_halves : (f : List ℕ) (at : ℕ) → number_at parameter_size f at ≡ number_at pair_size f at + byte_values * byte_values * number_at pair_size f (at + pair_size)
-unfolding number_at
-number_halves f at = let e : at + 1 + 1 ≡ at + pair_size = omega arith in rw e (omega arith)
+use Rattle.lucid.specs.Form.{little, number_at}
 
 -- the number read where its bytes stand
 pub number_little : (n x : ℕ) (a b : List ℕ) → x < byte_values ^ n → number_at n (a ++ (little n x ++ b)) (length a) ≡ x

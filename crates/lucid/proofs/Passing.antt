@@ -1,13 +1,6 @@
 -- A frame that is obeyed passed every test before its command, and one that passes them is asked what its command says. Assumes nothing.
 use Prim.{Unit}
-use Prim.Native.Nat.{ℕ, ◌+◌, ◌≤◌}
-use mathlib.Core.Path.{◌≡◌}
-use mathlib.Core.Bool.{Bool, true, false}
-use mathlib.Core.List.{List, ◌∷◌}
-use native.Mathlib.Omega.{arith}
-use borrow.Author.Tests.{le-leb, eq-eqb, eqb-true}
-use lib.Dec.{eqb}
-use lib.ListN.{length}
+use Rattle.std.proofs.Common.{ℕ, ◌+◌, ◌≤◌, Result, Ok, Err, ◌≡◌, Bool, true, false, List, ◌∷◌, arith, le-leb, eq-eqb, eqb-true, eqb, length}
 use Rattle.wire.specs.Choose.{choose}
 use Rattle.wire.specs.Length.{between}
 use Rattle.wire.proofs.Cases.{by_choice}
@@ -16,17 +9,12 @@ use Rattle.lucid.specs.Form.{longest, length_right, data_at}
 use Rattle.lucid.specs.Frame.{opc_in, p1_in, p2_in, len_in, opc_known, channel_right, mask_right, type_known, type_writable, option_right, len_for, asked}
 use Rattle.lucid.specs.Stages.{parameter_asked, command_asked}
 use Rattle.lucid.specs.declared.frame.Order.{Order}
-use Rattle.lucid.specs.declared.frame.Order.TheVariants.{Silent, Refused, GetIo, SetIo, GetParam, SetParam, Reset}
+use Rattle.lucid.specs.declared.frame.Refusal.{Refusal}
 
 -- an order that is no refusal
-abbrev pub Obeyed : Order → Type 0
-Obeyed (Silent number) = ⊥
-Obeyed (Refused number status) = ⊥
-Obeyed (GetIo valueType mask) = Unit {0}
-Obeyed (SetIo mask) = Unit {0}
-Obeyed (GetParam place) = Unit {0}
-Obeyed (SetParam place saved value) = Unit {0}
-Obeyed (Reset place saved) = Unit {0}
+abbrev pub Obeyed : Result Order Refusal → Type 0
+Obeyed (Err refusal) = ⊥
+Obeyed (Ok order) = Unit {0}
 
 -- what a frame passed
 pub record Passed (f : List ℕ) : Type 0 where
@@ -60,7 +48,7 @@ passed f =
     (λ i _. record { sized = eqb-true _ _ a; channel = c; writable = g; option = h; measured = eqb-true _ _ i; order = through f l a b c d e g h i })
     stop) stop) stop) stop) stop) stop) stop) stop) stop
   where
-    P : Order → Type 0
+    P : Result Order Refusal → Type 0
     P o = Obeyed o → Passed f
 
     stop : {t : Bool} → t ≡ false → ⊥ → Passed f

@@ -1,13 +1,6 @@
 -- Probes that work: a frame that asks for some, all of them working, is answered with their temperatures and not refused. Assumes nothing.
-use Prim.Native.Nat.{ℕ, zero, suc, ◌+◌, ◌/◌, ◌%◌, ◌<◌}
-use mathlib.Core.Path.{◌≡◌, refl, ap}
-use mathlib.Core.Bool.{Bool, true, false, not}
-use mathlib.Core.List.{List, [], ◌∷◌, ◌++◌}
-use native.Mathlib.Nat.{add-zero, zero-add}
-use native.Mathlib.Omega.{arith}
+use Rattle.std.proofs.Common.{ℕ, zero, suc, ◌+◌, ◌/◌, ◌%◌, ◌<◌, Result, Ok, Err, ◌≡◌, refl, ap, Bool, true, false, not, List, [], ◌∷◌, ◌++◌, add-zero, zero-add, arith, eqb, length, get_or}
 use borrow.Author.Tests.{eqb-false, not-true}
-use lib.Dec.{eqb}
-use lib.ListN.{length, get_or}
 use Rattle.wire.specs.Choose.{choose}
 use Rattle.wire.proofs.Tests.{and_true}
 use Rattle.card.specs.Numbers.{answered}
@@ -19,7 +12,8 @@ use Rattle.lucid.specs.Form.{channels_from, demand, ok}
 use Rattle.lucid.specs.Frame.{asked}
 use Rattle.lucid.specs.Answer.{Values, Held, joined, group, value_of, read, obeyed, lucid_reply, named, reads_probe, asks_probe}
 use Rattle.lucid.specs.declared.frame.Order.{Order}
-use Rattle.lucid.specs.declared.frame.Order.TheVariants.{Silent, Refused, GetIo, SetIo, GetParam, SetParam, Reset}
+use Rattle.lucid.specs.declared.frame.Order.TheVariants.{GetIo, SetIo, GetParam, SetParam, Reset}
+use Rattle.lucid.specs.declared.frame.Refusal.{Refusal}
 use Rattle.lucid.proofs.Writes.{value_probe}
 
 -- values that are held: no probe among them failed
@@ -56,20 +50,19 @@ read_given : (v : Values) → IsHeld v → IsGiven (read v)
 unfolding read
 read_given v p = (length p.0 ∷ p.0, rw p.1)
 
-order_works : (ws memory f : List ℕ) (order : Order) (channel : ℕ) → reads_probe order channel ≡ true → ((k : ℕ) → k < channels → reads_probe order k ≡ true → get_or memory k 0 < fault_code)
+order_works : (ws memory f : List ℕ) (order : Result Order Refusal) (channel : ℕ) → reads_probe order channel ≡ true → ((k : ℕ) → k < channels → reads_probe order k ≡ true → get_or memory k 0 < fault_code)
     → (rest : List ℕ) × (obeyed ws memory f order ≡ leaving ws (record { number = answered; bytes = ok ∷ rest }))
 unfolding obeyed reads_probe
-order_works ws memory f (Silent number) channel r works = ([], cc)
-order_works ws memory f (Refused number status) channel r works = ([], cc)
-order_works ws memory f (GetIo valueType mask) channel r works =
+order_works ws memory f (Err refusal) channel r works = ([], cc)
+order_works ws memory f (Ok (GetIo valueType mask)) channel r works =
     let b = and_true (not (eqb valueType demand)) (named channel mask) r in
     let other = eqb-false valueType demand (not-true _ b.0) in
     let g = read_given _ (group_held (value_of ws memory valueType) channels 0 mask (λ k h n. rw zero-add (value_held ws memory valueType k other (works k h (rw (b.0, n)))))) in
     (g.0, ap (leaving ws) g.1)
-order_works ws memory f (SetIo mask) channel r works = ([], cc)
-order_works ws memory f (GetParam place) channel r works = ([], cc)
-order_works ws memory f (SetParam place saved value) channel r works = ([], cc)
-order_works ws memory f (Reset place saved) channel r works = ([], cc)
+order_works ws memory f (Ok (SetIo mask)) channel r works = ([], cc)
+order_works ws memory f (Ok (GetParam place)) channel r works = ([], cc)
+order_works ws memory f (Ok (SetParam place saved value)) channel r works = ([], cc)
+order_works ws memory f (Ok (Reset place saved)) channel r works = ([], cc)
 
 -- every probe asked for works: unless 12 or 11 comes first, 0 and OK with the temperatures
 pub works : (card : Card) (room : ℕ) (f : List ℕ) (channel : ℕ) → asks_probe f channel ≡ true → ((k : ℕ) → k < channels → asks_probe f k ≡ true → get_or card.memory k 0 < fault_code)

@@ -1,15 +1,9 @@
 -- LucidControl's receiver: which part frames it can hold, and that it hands over every frame whose LEN is right. Assumes nothing.
-use mathlib.Core.Path.{◌≡◌, refl, sym, ap, ◌∙◌, subst}
-use mathlib.Core.Bool.{Bool, true, false, ◌&&◌, not}
-use mathlib.Core.List.{List, [], ◌∷◌, ◌++◌}
-use mathlib.Core.Logic.◌⊎◌.{inl}
-use Prim.Native.Nat.{ℕ, ◌+◌, ◌≤◌, ◌<◌}
+use Rattle.std.proofs.Common.{◌≡◌, refl, sym, ap, ◌∙◌, subst, Bool, true, false, ◌&&◌, not, List, [], ◌∷◌, ◌++◌, inl, ℕ, ◌+◌, ◌≤◌, ◌<◌, arith, leb-true, leb-false, ltb-true, ltb-false, lt-ltb, le-ltb, le-leb, leb, ltb, length, get_or, length-append}
 use native.Mathlib.Decide.{dec_lt}
-use native.Mathlib.Omega.{arith}
-use borrow.Author.Tests.{leb-true, leb-false, ltb-true, ltb-false, lt-ltb, le-ltb, le-leb, lt-leb, not-true}
-use lib.Dec.{leb, ltb}
-use lib.ListN.{length, get_or, length-append, get_or-append}
-use lib.Seq.{append_snoc, get_or-append_seam}
+use borrow.Author.Tests.{lt-leb, not-true}
+use Rattle.std.proofs.Math.ListN.{get_or-append}
+use Rattle.std.proofs.Math.Seq.{append_snoc, get_or-append_seam}
 use Rattle.wire.specs.Choose.{choose}
 use Rattle.wire.proofs.Cases.{by_choice}
 use Rattle.wire.proofs.Tests.{and_true}

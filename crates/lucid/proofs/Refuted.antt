@@ -1,12 +1,6 @@
 -- `OneReset` says something: for each part a wrong meaning that breaks it. Assumes nothing.
-use Prim.Native.Nat.{ℕ, ◌+◌}
-use mathlib.Core.Path.{◌≡◌, refl, ap}
-use mathlib.Core.Bool.{true}
-use mathlib.Core.Logic.{inl}
-use mathlib.Core.List.{List, [], ◌∷◌}
-use native.Mathlib.Omega.{arith}
+use Rattle.std.proofs.Common.{ℕ, ◌+◌, ◌≡◌, refl, ap, true, inl, List, [], ◌∷◌, arith, get_or, set}
 use borrow.Author.Tests.{eqb-false}
-use lib.ListN.{get_or, set}
 use Rattle.wire.specs.Buffer.{same}
 use Rattle.wire.specs.Choose.{choose}
 use Rattle.wire.proofs.Computed as wire

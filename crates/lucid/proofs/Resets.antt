@@ -1,14 +1,5 @@
 -- What document 02, M-103, says of a reset holds of every fit card. Assumes nothing.
-use Prim.Native.Nat.{ℕ, ◌+◌, ◌*◌, ◌≤◌, ◌<◌}
-use mathlib.Core.Path.{◌≡◌, refl, ◌∙◌, ap}
-use mathlib.Core.Bool.{Bool, true, false}
-use mathlib.Core.Logic.{inl, inr}
-use mathlib.Core.List.{List, [], ◌∷◌}
-use native.Mathlib.Omega.{arith}
-use borrow.Author.Tests.{lt-ltb, le-ltb, le-leb, eq-eqb, ne_eqb, eqb-true}
-use lib.Bits.{bit_and}
-use lib.Dec.{eqb}
-use lib.ListN.{length, set}
+use Rattle.std.proofs.Common.{Result, Err, ℕ, ◌+◌, ◌*◌, ◌≤◌, ◌<◌, ◌≡◌, refl, ◌∙◌, ap, Bool, true, false, inl, inr, List, [], ◌∷◌, arith, lt-ltb, le-ltb, le-leb, eq-eqb, ne_eqb, eqb-true, bit_and, eqb, length, set}
 use Rattle.wire.specs.Choose.{choose}
 use Rattle.wire.specs.Length.{between}
 use Rattle.wire.proofs.Computed as wire
@@ -22,7 +13,8 @@ use Rattle.lucid.specs.Stages.{command_asked, parameter_asked}
 use Rattle.lucid.specs.Answer.{obeyed, lucid_reply}
 use Rattle.lucid.specs.Resets.{Resetting, OneReset}
 use Rattle.lucid.specs.declared.frame.Order.{Order}
-use Rattle.lucid.specs.declared.frame.Order.TheVariants.{Refused}
+use Rattle.lucid.specs.declared.frame.Refusal.{Refusal}
+use Rattle.lucid.specs.declared.frame.Refusal.TheVariants.{Refused}
 use Rattle.lucid.proofs.Computed as lucid
 use Rattle.lucid.proofs.Laws.{replied}
 use Rattle.lucid.proofs.Passing.{asked_framed}
@@ -53,19 +45,19 @@ module _ (p1 option len : ℕ) (bytes : List ℕ) (few : length bytes < 256) whe
   unfolding between
   long = rw (le-leb 4 (length f) (omega arith), le-leb (length f) longest (omega arith))
 
-  slice_asked : (length bytes ≡ len → ⊥) → asked f ≡ Refused 3 0xB0
+  slice_asked : (length bytes ≡ len → ⊥) → asked f ≡ Err (Refused 3 0xB0)
   unfolding asked choose
   slice_asked n = rw (long, ne_eqb (length f) (data_at + len) (λ e. n (omega arith)))
 
-  channel_asked : length bytes ≡ len → channels ≤ p1 → asked f ≡ Refused 6 0xB8
+  channel_asked : length bytes ≡ len → channels ≤ p1 → asked f ≡ Err (Refused 6 0xB8)
   unfolding asked choose
   channel_asked e h = rw (long, eq-eqb (length f) (data_at + len) (omega arith), le-ltb p1 channels h)
 
-  option_asked_law : length bytes ≡ len → p1 < channels → option_right set_param option ≡ false → asked f ≡ Refused 7 0xB4
+  option_asked_law : length bytes ≡ len → p1 < channels → option_right set_param option ≡ false → asked f ≡ Err (Refused 7 0xB4)
   unfolding asked choose
   option_asked_law e h wrong = rw (long, eq-eqb (length f) (data_at + len) (omega arith), lt-ltb p1 channels h, wrong)
 
-  length_asked : length bytes ≡ len → p1 < channels → option_right set_param option ≡ true → is_reset set_param option ≡ true → (len ≡ 2 → ⊥) → asked f ≡ Refused 3 0xB0
+  length_asked : length bytes ≡ len → p1 < channels → option_right set_param option ≡ true → is_reset set_param option ≡ true → (len ≡ 2 → ⊥) → asked f ≡ Err (Refused 3 0xB0)
   unfolding asked len_for choose
   length_asked e h right resets n = rw (long, eq-eqb (length f) (data_at + len) (omega arith), lt-ltb p1 channels h, right, resets, ne_eqb len 2 n)
 
@@ -76,7 +68,7 @@ module _ (p1 option low high : ℕ) where
   address_named = omega arith
 
   address_asked : p1 < channels → option_right set_param option ≡ true → is_reset set_param option ≡ true → (low + 256 * high ≡ 0x1110 → ⊥) → (low + 256 * high ≡ 0x1120 → ⊥)
-      → asked (0xA0 ∷ p1 ∷ option ∷ 2 ∷ low ∷ high ∷ []) ≡ Refused 6 0xBA
+      → asked (0xA0 ∷ p1 ∷ option ∷ 2 ∷ low ∷ high ∷ []) ≡ Err (Refused 6 0xBA)
   unfolding command_asked parameter_asked len_for choose
   address_asked h right resets n m =
       asked_framed set_param p1 option (low ∷ high ∷ []) (omega arith) refl (lt-ltb p1 channels h) refl refl refl right (rw resets)
@@ -92,9 +84,9 @@ module _ (card : Card) (room channel : ℕ) (fits : fit card ≡ true) (enough :
   carried_out f words a b c d = replied card room (f channel) fits enough ∙ by_four (Leaves f words) a b c d channel within
 
   -- a frame that is refused
-  refused : (f : List ℕ) (number status : ℕ) → asked f ≡ Refused number status → lucid_reply card room f ≡ sent number (status ∷ 0 ∷ []) card
+  refused : (f : List ℕ) (number status : ℕ) → asked f ≡ Err (Refused number status) → lucid_reply card room f ≡ sent number (status ∷ 0 ∷ []) card
   unfolding obeyed
-  refused f number status e = replied card room f fits enough ∙ ap (λ (order : Order). on_words card (obeyed card.words card.memory f order)) e
+  refused f number status e = replied card room f fits enough ∙ ap (λ (order : Result Order Refusal). on_words card (obeyed card.words card.memory f order)) e
 
   pub one_reset : OneReset lucid_reply card room channel
   unfolding wire.computed lucid.computed

@@ -1,12 +1,7 @@
 -- The answer as it is written: status and LEN before its data, a number's bytes, and the values of a group, which grow channel by channel until
 -- one failed probe refuses them all. Assumes nothing.
-use mathlib.Core.Path.{◌≡◌, refl, sym, ap, ◌∙◌, subst}
-use mathlib.Core.List.{List, [], ◌∷◌, ◌++◌, append_assoc, append-nil}
-use Prim.Native.Nat.{ℕ, zero, suc, ◌+◌, ◌/◌, ◌%◌, ◌≤◌, ◌<◌}
-use native.Mathlib.Omega.{arith}
-use borrow.Author.Tests.{eq-eqb, ne_eqb}
-use lib.ListN.{length, get_or, take, drop, set, length-append}
-use lib.Seq.{sets, sets-eq, take_at, length-take-le}
+use Rattle.std.proofs.Common.{◌≡◌, refl, sym, ap, ◌∙◌, true, false, List, [], ◌∷◌, ◌++◌, append_assoc, append-nil, ℕ, zero, suc, ◌+◌, ◌/◌, ◌≤◌, ◌<◌, arith, eq-eqb, ne_eqb, length, get_or, take, drop, set, length-append, take_at, length-take-le}
+use Rattle.std.specs.Int.{w32, to_le_bytes}
 use Rattle.wire.specs.Buffer.{put}
 use Rattle.wire.proofs.Cases.{yes, no, by_choice}
 use Rattle.card.specs.Layout.{channels, demands_at}
@@ -16,7 +11,7 @@ use Rattle.card.proofs.Replies.{wrote_one, wrote_set, wrote_put}
 use Rattle.card.specs.declared.probe.Tenths.{Tenths}
 use Rattle.card.specs.declared.probe.Reading.TheVariants.{Temperature, Fault}
 use Rattle.lucid.specs.Form.{demand, demand_size, tenths_size, hundredths_size, little}
-use Rattle.lucid.specs.Answer.{Values, Held, Failed, joined, group, temperature_in, hundredths_of, reading_in, value_of, told, Grew}
+use Rattle.lucid.specs.Answer.{Values, Held, Failed, joined, group, temperature_in, hundredths_of, reading_in, value_of, told, named}
 use Rattle.lucid.proofs.Channels.{channels_left, channels_named, channels_passed, channels_done}
 
 -- status, LEN and the data, one after another
@@ -29,15 +24,24 @@ unfolding little
 length_little zero x = refl
 length_little (suc n) x = ap suc (length_little n (x / 256))
 
--- bytes stored one after another
-pub grew_sets : (bytes values : List ℕ) (n len : ℕ) → n + length bytes ≤ length values → len ≡ n + length bytes → Grew bytes values n len (sets values n bytes)
-grew_sets bytes values n len h e =
-    let l : length (take n values ++ bytes) ≡ n + length bytes = length-append (take n values) bytes ∙ ap (λ (k : ℕ). k + length bytes) (length-take-le n values (omega arith)) in
-    record { counted = e; held = rw (e, sets-eq bytes values n h) (take_at (take n values ++ bytes) (drop (n + length bytes) values) (n + length bytes) l) }
+-- a word's bytes, and its low two
+pub word_little : (x : ℕ) → to_le_bytes w32 x ≡ little 4 x
+unfolding little
+word_little x =
+    let third : x / 256 / 256 ≡ x / 65536 = omega arith in
+    let fourth : x / 65536 / 256 ≡ x / 16777216 = omega arith in
+    rw (third, fourth)
 
--- bytes known under another name
-pub grew_as : {values values' : List ℕ} {n len : ℕ} (b d : List ℕ) → b ≡ d → Grew b values n len values' → Grew d values n len values'
-grew_as {values} {values'} {n} {len} b d e = subst (λ (x : List ℕ). Grew x values n len values') e
+pub pair_little : (x : ℕ) → take 2 (to_le_bytes w32 x) ≡ little 2 x
+unfolding little
+pair_little x = refl
+
+-- bytes put behind those held
+pub put_held : (n : ℕ) (buffer bytes : List ℕ) → n + length bytes ≤ length buffer → take (n + length bytes) (put buffer n bytes) ≡ take n buffer ++ bytes
+unfolding put
+put_held n buffer bytes h =
+    let l : length (take n buffer ++ bytes) ≡ n + length bytes = length-append (take n buffer) bytes ∙ ap (λ (k : ℕ). k + length bytes) (length-take-le n buffer (omega arith)) in
+    rw (← append_assoc (take n buffer) bytes (drop (n + length bytes) buffer)) (take_at (take n buffer ++ bytes) (drop (n + length bytes) buffer) (n + length bytes) l)
 
 pub joined_none : (g : Values) → joined (Held []) g ≡ g
 unfolding joined
@@ -49,28 +53,27 @@ unfolding joined
 joined_more a b (Held d) = ap Held (append_assoc a b d)
 joined_more a b Failed = refl
 
-module _ (value : ℕ → Values) (channel left : ℕ) (h : channel < channels) where
+module _ (value : ℕ → Values) (channel mask : ℕ) (h : channel < channels) where
   -- a channel that is named, and its value put after those held
-  pub group_grew : (values values' bytes : List ℕ) (n len : ℕ) → left % 2 ≡ 1 → value channel ≡ Held bytes → Grew bytes values n len values'
-      → joined (Held (take len values')) (group value (channels_left (channel + 1) (left / 2))) ≡ joined (Held (take n values)) (group value (channels_left channel left))
+  pub group_grew : (held bytes : List ℕ) → named channel mask ≡ true → value channel ≡ Held bytes
+      → joined (Held (held ++ bytes)) (group value (channels_left (channel + 1) mask)) ≡ joined (Held held) (group value (channels_left channel mask))
   unfolding group
-  group_grew values values' bytes n len e i g =
-      rw (g.held, channels_named channel left h e, i) (joined_more (take n values) bytes (group value (channels_left (channel + 1) (left / 2))))
+  group_grew held bytes e i = rw (channels_named channel mask h e, i) (joined_more held bytes (group value (channels_left (channel + 1) mask)))
 
   -- one that is not named
-  pub group_passed : (held : List ℕ) → (left % 2 ≡ 1 → ⊥)
-      → joined (Held held) (group value (channels_left (channel + 1) (left / 2))) ≡ joined (Held held) (group value (channels_left channel left))
-  group_passed held n = rw (channels_passed channel left h n)
+  pub group_passed : (held : List ℕ) → named channel mask ≡ false
+      → joined (Held held) (group value (channels_left (channel + 1) mask)) ≡ joined (Held held) (group value (channels_left channel mask))
+  group_passed held e = rw (channels_passed channel mask h e)
 
   -- one whose probe failed
-  pub group_failed : (held : List ℕ) → left % 2 ≡ 1 → value channel ≡ Failed → joined (Held held) (group value (channels_left channel left)) ≡ Failed
+  pub group_failed : (held : List ℕ) → named channel mask ≡ true → value channel ≡ Failed → joined (Held held) (group value (channels_left channel mask)) ≡ Failed
   unfolding group joined
-  group_failed held n e = rw (channels_named channel left h n, e)
+  group_failed held e i = rw (channels_named channel mask h e, i)
 
 -- after the last channel
-pub group_done : (value : ℕ → Values) (channel left : ℕ) (held : List ℕ) → channels ≤ channel → joined (Held held) (group value (channels_left channel left)) ≡ Held held
+pub group_done : (value : ℕ → Values) (channel mask : ℕ) (held : List ℕ) → channels ≤ channel → joined (Held held) (group value (channels_left channel mask)) ≡ Held held
 unfolding group joined
-group_done value channel left held h = rw (channels_done channel left h) (ap Held (append-nil held))
+group_done value channel mask held h = rw (channels_done channel mask h) (ap Held (append-nil held))
 
 module _ (ws memory : List ℕ) (valueType channel : ℕ) where
   pub value_demand : valueType ≡ demand → value_of ws memory valueType channel ≡ Held (little demand_size (get_or ws (demands_at + channel) 0))

@@ -1,5 +1,5 @@
 -- What the card answers to a LucidControl frame, and what its words become. Document 01, "LucidControl", and document 02, M-103.
-use Rattle.std.specs.Prelude.{ℕ, zero, suc, ◌+◌, ◌*◌, ◌/◌, ◌%◌, ◌≡◌, Bool, false, ◌&&◌, not, List, [], ◌∷◌, ◌++◌, eqb, length, get_or, set, take}
+use Rattle.std.specs.Prelude.{ℕ, zero, suc, ◌+◌, ◌*◌, ◌/◌, ◌%◌, Bool, false, ◌&&◌, not, List, [], ◌∷◌, ◌++◌, Result, Ok, Err, eqb, length, get_or, set}
 use Rattle.wire.specs.Choose.{choose}
 use Rattle.wire.specs.Word.{word_values}
 use Rattle.card.specs.Numbers.{answered, probe_fault}
@@ -14,7 +14,9 @@ use Rattle.lucid.specs.Form.{data_at, channels_of, demand, tenths, demand_size, 
 use Rattle.lucid.specs.Frame.{asked}
 use Rattle.lucid.specs.declared.answer.Hundredths.{Hundredths}
 use Rattle.lucid.specs.declared.frame.Order.{Order}
-use Rattle.lucid.specs.declared.frame.Order.TheVariants.{Silent, Refused, GetIo, SetIo, GetParam, SetParam, Reset}
+use Rattle.lucid.specs.declared.frame.Order.TheVariants.{GetIo, SetIo, GetParam, SetParam, Reset}
+use Rattle.lucid.specs.declared.frame.Refusal.{Refusal}
+use Rattle.lucid.specs.declared.frame.Refusal.TheVariants.{Silent, Refused}
 
 -- what is read of channels: the bytes of their values one after another, or a failed probe
 pub data Values : Type 0 where
@@ -62,6 +64,11 @@ told number status bytes = record { number = number; bytes = status ∷ length b
 abbrev pub refused : ℕ → ℕ → Answer
 refused number status = told number status []
 
+-- what a refusal answers: a silent one its number, with no byte on the wire
+abbrev pub turned_down : Refusal → Answer
+turned_down (Silent number) = record { number = number; bytes = [] }
+turned_down (Refused number status) = refused number status
+
 -- a command that was done and gives no data
 abbrev pub done : Answer
 done = told answered ok []
@@ -93,15 +100,14 @@ default_of place = choose (eqb (place % parameters_each) 0) cycle_default floor_
 unfoldable pub reset : ℕ → Bool → List ℕ → List ℕ
 reset place saved ws = stored place saved (default_of place) ws
 
--- what the card does with an order: what it answers, and the words that it leaves
-unfoldable pub obeyed : List ℕ → List ℕ → List ℕ → Order → WordsReply
-obeyed ws memory f (Silent number) = record { number = number; bytes = []; words = ws }
-obeyed ws memory f (Refused number status) = leaving ws (refused number status)
-obeyed ws memory f (GetIo valueType mask) = leaving ws (read (group (value_of ws memory valueType) (channels_of mask)))
-obeyed ws memory f (SetIo mask) = leaving (demanded (channels_of mask) f data_at ws) done
-obeyed ws memory f (GetParam place) = leaving ws (told answered ok (little parameter_size (get_or ws (parameters_at + place) 0)))
-obeyed ws memory f (SetParam place saved value) = leaving (stored place saved value ws) done
-obeyed ws memory f (Reset place saved) = leaving (reset place saved ws) done
+-- what the card does with an order or a refusal: what it answers, and the words that it leaves
+unfoldable pub obeyed : List ℕ → List ℕ → List ℕ → Result Order Refusal → WordsReply
+obeyed ws memory f (Err refusal) = leaving ws (turned_down refusal)
+obeyed ws memory f (Ok (GetIo valueType mask)) = leaving ws (read (group (value_of ws memory valueType) (channels_of mask)))
+obeyed ws memory f (Ok (SetIo mask)) = leaving (demanded (channels_of mask) f data_at ws) done
+obeyed ws memory f (Ok (GetParam place)) = leaving ws (told answered ok (little parameter_size (get_or ws (parameters_at + place) 0)))
+obeyed ws memory f (Ok (SetParam place saved value)) = leaving (stored place saved value ws) done
+obeyed ws memory f (Ok (Reset place saved)) = leaving (reset place saved ws) done
 
 -- the entry's whole meaning; room is the answer buffer's length
 unfoldable pub lucid_reply : Card → ℕ → List ℕ → Reply
@@ -113,20 +119,14 @@ named zero mask = eqb (mask % 2) 1
 named (suc channel) mask = named channel (mask / 2)
 
 -- an order asks for the probe of a channel
-unfoldable pub reads_probe : Order → ℕ → Bool
-reads_probe (Silent number) channel = false
-reads_probe (Refused number status) channel = false
-reads_probe (GetIo valueType mask) channel = not (eqb valueType demand) && named channel mask
-reads_probe (SetIo mask) channel = false
-reads_probe (GetParam place) channel = false
-reads_probe (SetParam place saved value) channel = false
-reads_probe (Reset place saved) channel = false
+unfoldable pub reads_probe : Result Order Refusal → ℕ → Bool
+reads_probe (Err refusal) channel = false
+reads_probe (Ok (GetIo valueType mask)) channel = not (eqb valueType demand) && named channel mask
+reads_probe (Ok (SetIo mask)) channel = false
+reads_probe (Ok (GetParam place)) channel = false
+reads_probe (Ok (SetParam place saved value)) channel = false
+reads_probe (Ok (Reset place saved)) channel = false
 
 -- a frame does
 unfoldable pub asks_probe : List ℕ → ℕ → Bool
 asks_probe f channel = reads_probe (asked f) channel
-
--- bytes were put at the end of the n bytes held so far
-pub record Grew (bytes values : List ℕ) (n len : ℕ) (values' : List ℕ) : Type 0 where
-  pub counted : len ≡ n + length bytes
-  pub held : take len values' ≡ take n values ++ bytes

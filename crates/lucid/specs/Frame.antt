@@ -1,6 +1,6 @@
 -- What a LucidControl frame asks: document 01, "LucidControl", "Order", and document 02, M-103. A line of `asked` is a test, and the number
 -- and the status if it fails, or a command that has no further test. A test that a command has no use for passes.
-use Rattle.std.specs.Prelude.{ℕ, ◌+◌, ◌*◌, ◌^◌, Bool, ◌&&◌, ◌||◌, not, List, leb, ltb, eqb, length, get_or}
+use Rattle.std.specs.Prelude.{ℕ, ◌+◌, ◌*◌, ◌^◌, Bool, ◌&&◌, ◌||◌, not, List, Result, Ok, Err, leb, ltb, eqb, length, get_or}
 use Rattle.std.specs.Int.Bits.{bit_and}
 use Rattle.wire.specs.Choose.{choose}
 use Rattle.card.specs.Numbers.{frame_form, command_unknown, range_unknown, value_outside, read_only}
@@ -8,15 +8,17 @@ use Rattle.card.specs.Layout.{channels, parameters_at, parameters_each}
 use Rattle.card.specs.Fitness.{in_range}
 use Rattle.lucid.specs.Form.{length_right, opc_at, p1_at, p2_at, len_at, data_at, get_io, get_io_group, set_io, set_io_group, set_param, get_param, mask_most, channels_of, demand, tenths, hundredths, size_of, default, persistent, other_bits, cycle_address, floor_address, address_size, value_at, parameter_size, no_support, inv_length, inv_p1, inv_p2, inv_value, inv_channel, inv_param, inv_data, number_at}
 use Rattle.lucid.specs.declared.frame.Order.{Order}
-use Rattle.lucid.specs.declared.frame.Order.TheVariants.{Silent, Refused, GetIo, SetIo, GetParam, SetParam, Reset}
+use Rattle.lucid.specs.declared.frame.Order.TheVariants.{GetIo, SetIo, GetParam, SetParam, Reset}
+use Rattle.lucid.specs.declared.frame.Refusal.{Refusal}
+use Rattle.lucid.specs.declared.frame.Refusal.TheVariants.{Silent, Refused}
 
 -- a test, and the number if it fails, with no byte on the wire
-abbrev pub silently : Bool → ℕ → Order → Order
-silently test number rest = choose test rest (Silent number)
+abbrev pub silently : Bool → ℕ → Result Order Refusal → Result Order Refusal
+silently test number rest = choose test rest (Err (Silent number))
 
 -- a test, and the number and the status if it fails
-abbrev pub unless : Bool → ℕ → ℕ → Order → Order
-unless test number status rest = choose test rest (Refused number status)
+abbrev pub unless : Bool → ℕ → ℕ → Result Order Refusal → Result Order Refusal
+unless test number status rest = choose test rest (Err (Refused number status))
 
 -- OPC, P1, P2 and LEN of a frame
 abbrev pub opc_in : List ℕ → ℕ
@@ -114,7 +116,7 @@ value_right place value = in_range (parameters_at + place) value
 -- or mask 0 or above 0Fh (6, B2h); type unknown (7, B6h), probe written (8, B6h), option other than bits 01h and 80h, or nonzero in GetParam
 -- (7, B4h); LEN for the command (3, B0h); parameter address (6, BAh); value (7, C0h); fault (9, D0h)": the fault is found in answering.
 -- Document 02, M-103: "LEN other than 2 with option 01h is 3, B0h; an unknown address is 6, BAh, in the old order"
-unfoldable pub asked : List ℕ → Order
+unfoldable pub asked : List ℕ → Result Order Refusal
 asked f =
     let opc = opc_in f in
     let p1 = p1_in f in
@@ -129,10 +131,10 @@ asked f =
     (unless (type_writable opc p2) read_only inv_value
     (unless (option_right opc p2) value_outside inv_p2
     (unless (eqb (len_in f) (len_for opc p1 p2)) frame_form inv_length
-    (choose (is_get opc) (GetIo p2 (mask_of opc p1))
-    (choose (is_set opc) (SetIo (mask_of opc p1))
+    (choose (is_get opc) (Ok (GetIo p2 (mask_of opc p1)))
+    (choose (is_set opc) (Ok (SetIo (mask_of opc p1)))
     (unless (address_known (address_in f)) range_unknown inv_param
-    (choose (eqb opc get_param) (GetParam place)
-    (choose (is_reset opc p2) (Reset place (saves p2))
+    (choose (eqb opc get_param) (Ok (GetParam place))
+    (choose (is_reset opc p2) (Ok (Reset place (saves p2)))
     (unless (value_right place (value_in f)) value_outside inv_data
-    (SetParam place (saves p2) (value_in f))))))))))))))))
+    (Ok (SetParam place (saves p2) (value_in f)))))))))))))))))

@@ -1,25 +1,23 @@
 // What the card answers to a LucidControl frame, and what its words become. Document 01, "LucidControl".
-ghost use Rattle.std.specs.Prelude.{◌≡◌, ◌+◌, ◌*◌, ◌≤◌, ◌<◌, length, take, get_or, set};
+ghost use Rattle.std.specs.Prelude.{◌≡◌, ℕ, ◌+◌, ◌*◌, ◌≤◌, ◌<◌, List, [], ◌++◌, Ok, length, take, get_or, set};
 ghost use Rattle.card.specs.Numbers.{answered};
 ghost use Rattle.card.specs.Layout.{channels, demands_at, parameter_count, parameters_at, word_count, memory_size};
 ghost use Rattle.card.specs.Reply.{room_least, GaveWords, Told};
-ghost use Rattle.lucid.specs.Form.{data_at, channels_of, demand_size, tenths_size, hundredths_size, parameter_size, values_most, ok, little};
+ghost use Rattle.lucid.specs.Form.{data_at, channels_of, demand_size, hundredths_size, parameter_size, values_most, ok, little};
 ghost use Rattle.lucid.specs.Stages.{Sound};
-ghost use Rattle.lucid.specs.Answer.{group, hundredths_of, temperature_in, value_of, told, refused, read, demanded, stored, default_of, reset, obeyed, Grew};
+ghost use Rattle.lucid.specs.Answer.{group, hundredths_of, temperature_in, value_of, told, refused, turned_down, read, demanded, stored, default_of, reset, obeyed, named};
 
 use crate::form::Lucid;
-use crate::frame::{Order, pair};
+use crate::frame::{Order, Refusal, pair};
 use card::Outcome;
 use card::fitness::{CYCLE_DEFAULT, FLOOR_DEFAULT};
 use card::layout::{CHANNELS, DEMANDS, PARAMETERS, PARAMETERS_EACH, SAVED_PARAMETERS};
 use card::numbers::{ANSWERED, PROBE_FAULT};
 use card::probe::{Reading, Tenths, read_code};
-use wire::BYTE_VALUES;
+use std::marker::Model;
 
 // The most bytes of data that an answer has: four channels in type 41h.
 const VALUES: usize = CHANNELS * Lucid::HUNDREDTHS_SIZE as usize;
-
-const NO_VALUES: [u8; VALUES] = [0; VALUES];
 
 const WORD_VALUES: u64 = 0x1_0000_0000;
 
@@ -39,33 +37,62 @@ impl Hundredths {
     }
 }
 
-// Writes status, LEN and the first len bytes of values.
-fn respond(out: &mut [u8], number: u8, status: u8, values: &[u8], len: usize) -> Outcome
-    requires { (len ≤ length values.now) × ((length values.now ≤ values_most) × (room_least ≤ length out.old)) }
-    ensures { Told (told number status (take len values.now)) out.old result.number result.len out.new }
-{
-    out[0] = status;
-    out[1] = len as u8;
-    wire::copy(&values[..len], out, Lucid::HEAD);
-    Outcome {
-        number,
-        len: Lucid::HEAD + len,
+// The bytes of the values that an answer gives, one after another.
+#[derive(Drop)]
+struct ValueBytes {
+    bytes: [u8; VALUES],
+    len: usize,
+}
+
+// Clauses see the bytes held.
+impl Model for ValueBytes {
+    ghost Value = { List ℕ };
+
+    ghost view = { λ v. take v.len v.bytes };
+
+    ghost invariant = { λ v. v.len ≤ values_most };
+}
+
+impl ValueBytes {
+    fn new() -> ValueBytes
+        ensures { result ≡ [] }
+    {
+        ValueBytes {
+            bytes: [0; VALUES],
+            len: 0,
+        }
+    }
+
+    // Puts bytes behind those held so far.
+    fn append(&mut self, bytes: &[u8])
+        requires { length self.old + length bytes.now ≤ values_most }
+        ensures { self.new ≡ self.old ++ bytes.now }
+    {
+        wire::copy(bytes, &mut self.bytes, self.len);
+        self.len += bytes.len();
+    }
+
+    fn bytes(&self) -> &[u8]
+        ensures { (result.now ≡ self.now) × (length result.now ≤ values_most) }
+    {
+        &self.bytes[..self.len]
     }
 }
 
-// Writes the low bytes of a word after the n bytes held so far, lowest first.
-fn put_little(word: u32, size: usize, values: &mut [u8], n: usize) -> usize
-    requires { n + size ≤ length values.old }
-    ensures { Grew (little size word) values.old n result values.new }
+// The words, the memory and the buffer stay slices here, each length a clause: the C interface lends them so (nk_lucid), and a
+// struct round them would be made and taken apart in `lucid` alone.
+// Writes status, LEN and the bytes of values.
+fn respond(out: &mut [u8], number: u8, status: u8, values: &[u8]) -> Outcome
+    requires { (length values.now ≤ values_most) × (room_least ≤ length out.old) }
+    ensures { Told (told number status values.now) out.old result.number result.len out.new }
 {
-    let mut left = word;
-    let mut i = 0;
-    while i < size {
-        values[n + i] = (left % BYTE_VALUES) as u8;
-        left = left / BYTE_VALUES;
-        i += 1;
+    out[0] = status;
+    out[1] = values.len() as u8;
+    wire::copy(values, out, Lucid::HEAD);
+    Outcome {
+        number,
+        len: Lucid::HEAD + values.len(),
     }
-    n + size
 }
 
 // A status with LEN 0.
@@ -73,35 +100,19 @@ fn tell(out: &mut [u8], number: u8, status: u8) -> Outcome
     requires { room_least ≤ length out.old }
     ensures { Told (refused number status) out.old result.number result.len out.new }
 {
-    let values = NO_VALUES;
-    respond(out, number, status, &values, 0)
-}
-
-// A value of type 40h.
-fn put_tenths(t: Tenths, values: &mut [u8], n: usize) -> usize
-    requires { n + tenths_size ≤ length values.old }
-    ensures { Grew (little tenths_size t.0) values.old n result values.new }
-{
-    put_little(t.word(), Lucid::TENTHS_SIZE as usize, values, n)
-}
-
-// A value of type 41h.
-fn put_hundredths(h: Hundredths, values: &mut [u8], n: usize) -> usize
-    requires { n + hundredths_size ≤ length values.old }
-    ensures { Grew (little hundredths_size h.0) values.old n result values.new }
-{
-    put_little(h.0, Lucid::HUNDREDTHS_SIZE as usize, values, n)
+    respond(out, number, status, &[])
 }
 
 // A temperature in the type asked.
-fn put_temperature(value_type: u8, t: Tenths, values: &mut [u8], n: usize) -> usize
-    requires { n + hundredths_size ≤ length values.old }
-    ensures { Grew (temperature_in value_type t) values.old n result values.new }
+fn put_temperature(value_type: u8, t: Tenths, values: &mut ValueBytes)
+    requires { length values.old + hundredths_size ≤ values_most }
+    ensures { values.new ≡ values.old ++ temperature_in value_type t }
 {
     if value_type == Lucid::TENTHS {
-        return put_tenths(t, values, n);
+        values.append(&t.word().to_le_bytes()[..Lucid::TENTHS_SIZE as usize]);
+        return;
     }
-    put_hundredths(Hundredths::of(t), values, n)
+    values.append(&Hundredths::of(t).0.to_le_bytes());
 }
 
 // Answers the value of a parameter.
@@ -109,10 +120,8 @@ fn read_parameter(words: &[u32], place: u8, out: &mut [u8]) -> Outcome
     requires { (length words.now ≡ word_count) × ((place < parameter_count) × (room_least ≤ length out.old)) }
     ensures { Told (told answered ok (little parameter_size (get_or words.now (parameters_at + place) 0))) out.old result.number result.len out.new }
 {
-    let mut values = NO_VALUES;
     let value = words[PARAMETERS + place as usize];
-    let len = put_little(value, Lucid::PARAMETER_SIZE as usize, &mut values, 0);
-    respond(out, ANSWERED, Lucid::OK, &values, len)
+    respond(out, ANSWERED, Lucid::OK, &value.to_le_bytes())
 }
 
 // Sets a parameter, and its saved copy if that is asked.
@@ -152,22 +161,26 @@ fn set_demand(words: &mut [u32], channel: usize, demand: u32)
     words[DEMANDS + channel] = demand;
 }
 
+// Whether a mask names a channel.
+fn names(mask: u8, channel: usize) -> bool
+    requires { channel < channels }
+    ensures { result ≡ named channel mask }
+{
+    (mask >> channel) % 2 == 1
+}
+
 // Sets the demands of the channels that a mask names, lowest first.
 fn set_demands(words: &mut [u32], mask: u8, f: &[u8])
     requires { (length words.old ≡ word_count) × (length f.now ≡ data_at + demand_size * length (channels_of mask)) }
     ensures { words.new ≡ demanded (channels_of mask) f.now data_at words.old }
 {
-    let mut left = mask;
     let mut at = Lucid::DATA;
-    let mut channel = 0;
-    while channel < CHANNELS {
-        if left % 2 == 1 {
+    for channel in 0..CHANNELS {
+        if names(mask, channel) {
             let demand = pair(f, at);
             set_demand(words, channel, demand);
             at += Lucid::DEMAND_SIZE as usize;
         }
-        left = left / 2;
-        channel += 1;
     }
 }
 
@@ -176,31 +189,33 @@ fn read_channels(words: &[u32], memory: &[u8], value_type: u8, mask: u8, out: &m
     requires { (length words.now ≡ word_count) × ((length memory.now ≡ memory_size) × (room_least ≤ length out.old)) }
     ensures { Told (read (group (value_of words.now memory.now value_type) (channels_of mask))) out.old result.number result.len out.new }
 {
-    let mut values = NO_VALUES;
-    let mut len = 0;
-    let mut left = mask;
-    let mut channel = 0;
-    while channel < CHANNELS {
-        if left % 2 == 1 {
+    let mut values = ValueBytes::new();
+    for channel in 0..CHANNELS {
+        if names(mask, channel) {
             if value_type == Lucid::DEMAND {
-                len = put_little(
-                    words[DEMANDS + channel],
-                    Lucid::DEMAND_SIZE as usize,
-                    &mut values,
-                    len,
-                );
+                let demand = words[DEMANDS + channel];
+                values.append(&demand.to_le_bytes()[..Lucid::DEMAND_SIZE as usize]);
             } else {
                 let reading = read_code(memory[channel]);
                 let Reading::Temperature(t) = reading else {
-                    return respond(out, PROBE_FAULT, Lucid::ERR_EXECUTION, &values, 0);
+                    return respond(out, PROBE_FAULT, Lucid::ERR_EXECUTION, &[]);
                 };
-                len = put_temperature(value_type, t, &mut values, len);
+                put_temperature(value_type, t, &mut values);
             }
         }
-        left = left / 2;
-        channel += 1;
     }
-    respond(out, ANSWERED, Lucid::OK, &values, len)
+    respond(out, ANSWERED, Lucid::OK, values.bytes())
+}
+
+// Answers a refusal.
+pub(crate) fn turn_down(refusal: Refusal, out: &mut [u8]) -> Outcome
+    requires { room_least ≤ length out.old }
+    ensures { Told (turned_down refusal) out.old result.number result.len out.new }
+{
+    match refusal {
+        Refusal::Silent(number) => Outcome { number, len: 0 },
+        Refusal::Refused(number, status) => tell(out, number, status),
+    }
 }
 
 // Carries out an order on the words of a fit card.
@@ -211,12 +226,10 @@ pub(crate) fn obey(
     order: Order,
     out: &mut [u8],
 ) -> Outcome
-    requires { ((length words.old ≡ word_count) × (length memory.now ≡ memory_size)) × (Sound f.now order × (room_least ≤ length out.old)) }
-    ensures { GaveWords (obeyed words.old memory.now f.now order) out.old result.number result.len words.new out.new }
+    requires { ((length words.old ≡ word_count) × (length memory.now ≡ memory_size)) × (Sound f.now (Ok order) × (room_least ≤ length out.old)) }
+    ensures { GaveWords (obeyed words.old memory.now f.now (Ok order)) out.old result.number result.len words.new out.new }
 {
     match order {
-        Order::Silent(number) => Outcome { number, len: 0 },
-        Order::Refused(number, status) => tell(out, number, status),
         Order::GetIo(value_type, mask) => read_channels(words, memory, value_type, mask, out),
         Order::SetIo(mask) => {
             set_demands(words, mask, f);

@@ -1,15 +1,25 @@
 // The form of a LucidControl frame: OPC, P1, P2, LEN, data. Document 01, "LucidControl"; names by source document 002.
 ghost use Rattle.std.specs.Prelude.{◌≡◌, ◌≤◌};
-ghost use Rattle.lucid.specs.Form.{length_right, hundredths_size, size_of};
+ghost use Rattle.lucid.specs.Form.{shortest, longest, hundredths_size, size_of};
+
+use receiver::Frames;
 
 #[derive(Clone, Copy)]
 pub struct Lucid {}
 
-impl Lucid {
-    // The shortest and the longest frame. Document 01, "Numbers returned".
-    pub const SHORTEST: usize = 4;
+// "Numbers returned", last lines.
+impl Frames for Lucid {
+    const SHORTEST: usize = 4;
 
-    pub const LONGEST: usize = 259;
+    const LONGEST: usize = 259;
+
+    ghost SHORTEST = { shortest };
+
+    ghost LONGEST = { longest };
+}
+
+// Numbers and no enums: document 01 names this form, constants on a type for each dialect.
+impl Lucid {
     // Where the parts of a frame stand; and the length of an answer's head, status and LEN.
     pub const OPC: usize = 0;
 
@@ -84,13 +94,6 @@ impl Lucid {
     pub const INV_DATA: u8 = 0xC0;
 
     pub const ERR_EXECUTION: u8 = 0xD0;
-
-    // Whether a frame may have n bytes.
-    pub(crate) fn fits(n: usize) -> bool
-        ensures { result ≡ length_right n }
-    {
-        (Lucid::SHORTEST <= n) & (n <= Lucid::LONGEST)
-    }
 
     // How many bytes a value of a type has.
     pub fn size(value_type: u8) -> u8

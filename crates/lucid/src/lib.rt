@@ -20,10 +20,13 @@ pub fn lucid(words: &mut [u32], memory: &[u8], ports: &[u8], f: &[u8], out: &mut
         let after = card_of words.new memory.now ports.now in
         Gave (lucid_reply before (length out.old) f.now) out.old result after out.new }
 {
+    // A number and no Result: `nk_lucid` hands it to C, and every dialect's entry has this form.
     let number = card::stop_early(words, memory, ports, ROOM_LEAST, out.len());
     if number != ANSWERED {
         return Outcome { number, len: 0 };
     }
-    let order = frame::order_of(f);
-    answer::obey(words, memory, f, order, out)
+    match frame::order_of(f) {
+        Ok(order) => answer::obey(words, memory, f, order, out),
+        Err(refusal) => answer::turn_down(refusal, out),
+    }
 }

@@ -1,12 +1,5 @@
 -- What is known of a request that 7 does not refuse, command by command. Assumes nothing.
-use Prim.Native.Nat.{ℕ, ◌+◌, ◌≤◌, ◌<◌}
-use mathlib.Core.Path.{◌≡◌, refl, sym, subst}
-use mathlib.Core.Bool.{Bool, true, false, ◌&&◌, ◌||◌}
-use mathlib.Core.List.{List}
-use native.Mathlib.Omega.{arith}
-use borrow.Author.Tests.{ltb-true, leb-true, eqb-true}
-use lib.Dec.{leb, eqb}
-use lib.ListN.{length, get_or}
+use Rattle.std.proofs.Common.{ℕ, ◌+◌, ◌≤◌, ◌<◌, ◌≡◌, refl, sym, subst, Bool, true, false, ◌&&◌, ◌||◌, List, arith, ltb-true, leb-true, eqb-true, leb, eqb, length, get_or}
 use Rattle.wire.specs.Sum.{byte_values}
 use Rattle.wire.proofs.Tests.{and_true, and_true_right}
 use Rattle.card.specs.Layout.{channels, parameters_at}

@@ -1,20 +1,10 @@
 -- The values of an answer, one after another: those known so far and those to come. Assumes nothing.
-use Prim.Native.Nat.{ℕ, suc, ◌+◌, ◌-◌, ◌*◌, ◌≤◌, ◌<◌}
-use mathlib.Core.Path.{◌≡◌, refl, sym, ap, ◌∙◌}
-use mathlib.Core.Bool.{Bool, true, false, ◌&&◌}
-use mathlib.Core.List.{List, [], ◌∷◌, ◌++◌, append_assoc, append-nil}
-use native.Mathlib.Nat.{sub-zero, mul-suc}
-use native.Mathlib.Numerals.{add-one}
-use native.Mathlib.Omega.{arith}
-use borrow.Author.Tests.{eqb-true, ne_eqb, eq-eqb}
-use lib.Dec.{eqb}
-use lib.ListN.{length, take, get_or, set, length-set}
-use lib.Seq.{take-suc-set, ext_get_or}
+use Rattle.std.proofs.Common.{ℕ, suc, ◌+◌, ◌-◌, ◌*◌, ◌≤◌, ◌<◌, ◌≡◌, refl, sym, ap, ◌∙◌, Bool, true, false, ◌&&◌, List, [], ◌∷◌, ◌++◌, append_assoc, append-nil, mul-suc, add-one, arith, eqb-true, ne_eqb, eq-eqb, eqb, length, take, get_or, set, length-set, take-suc-set}
+use Rattle.std.proofs.Math.Nat.{sub-zero}
 use Rattle.wire.specs.Choose.{choose}
 use Rattle.wire.specs.Buffer.{same}
 use Rattle.wire.proofs.Cases.{yes}
 use Rattle.wire.proofs.Same.{same_true}
-use Rattle.wire.proofs.Sweep.{by_four}
 use Rattle.wire.proofs.Tests.{and_true, and_true_right, and_false_right, both, same_test}
 use Rattle.card.specs.Layout.{channels}
 use Rattle.lucid.specs.Form.{demand, tenths, pair_size, hundredths_size, size_of, number_at, ok, err_execution}
@@ -98,12 +88,6 @@ module _ (valueType : ℕ) where
     unfolding word_of size_of choose
     word_other d t = rw (ne_eqb valueType demand d, ne_eqb valueType tenths t)
 
--- a list of four
-list_four : (s : List ℕ) → length s ≡ channels → s ≡ get_or s 0 0 ∷ get_or s 1 0 ∷ get_or s 2 0 ∷ get_or s 3 0 ∷ []
-list_four s h =
-    ext_get_or 0 s _ h
-    (λ i l. by_four (λ k. get_or s k 0 ≡ get_or (get_or s 0 0 ∷ get_or s 1 0 ∷ get_or s 2 0 ∷ get_or s 3 0 ∷ []) k 0) refl refl refl refl i (omega arith))
-
 module _ (valueType n : ℕ) (r : List ℕ) where
   -- the first i values are answerable and stand in `values`; from index at on come the others
   pub record Known (values : List ℕ) (at i : ℕ) : Type 0 where
@@ -128,9 +112,6 @@ module _ (valueType n : ℕ) (r : List ℕ) where
     left_next : Known values at i → length r ≡ at + size_of valueType + size_of valueType * (n - (i + 1))
     left_next k = omega (arith, k.left, ap (λ (m : ℕ). size_of valueType * m) fewer, mul-suc (size_of valueType) (n - (i + 1)))
 
-    pub known_room : Known values at i → at + size_of valueType ≤ length r
-    known_room k = omega (arith, left_next k)
-
     module _ (w : ℕ) (read : w ≡ word_of valueType (number_at (size_of valueType) r at)) where
       pub known_wrong : answerable valueType w ≡ false → Known values at i → all_answerable valueType (values_from valueType n r head_size) ≡ false
       unfolding all_answerable
@@ -152,11 +133,11 @@ module _ (valueType n : ℕ) (r : List ℕ) where
 
   -- all are known
   pub heard_all : (values : List ℕ) (at i : ℕ) → n ≤ i → shaped r (size_of valueType * n) ≡ true → Known values at i
-      → Gives (take n (get_or values 0 0 ∷ get_or values 1 0 ∷ get_or values 2 0 ∷ get_or values 3 0 ∷ [])) ≡ heard_values valueType n r
+      → Gives (take n values) ≡ heard_values valueType n r
   unfolding heard_values values_from all_answerable
   heard_all values at i end s k =
       let e : i ≡ n = omega (arith, k.few) in
       let none : n - i ≡ 0 = omega arith in
       let right : all_answerable valueType (values_from valueType n r head_size) ≡ true = k.right ∙ rw none in
       let held : values_from valueType n r head_size ≡ take n values = k.held ∙ rw (none, e) (append-nil (take n values)) in
-      yes _ _ _ _ (both s right) (ap (λ (l : List ℕ). Gives (take n l)) (sym (list_four values k.room)) ∙ ap Gives (sym held))
+      yes _ _ _ _ (both s right) (ap Gives (sym held))

@@ -2,46 +2,53 @@
 ghost use Rattle.std.specs.Prelude.{◌≡◌, true, [], ◌∷◌, ◌+◌, ◌*◌, ◌≤◌, length};
 ghost use Rattle.wire.specs.Buffer.{put};
 ghost use Rattle.card.specs.Reply.{Wrote};
-ghost use Rattle.lucid.specs.Form.{data_at, demand_size, pair_size, address_size, set_param, little};
+ghost use Rattle.lucid.specs.Form.{data_at, demand_size, pair_size, address_size, little};
 ghost use Rattle.lucid_master.specs.Request.{asking_of, askable, demand_bytes, data_of, made};
-ghost use Rattle.lucid_master.specs.Stages.{made_most, Headed};
+ghost use Rattle.lucid_master.specs.Stages.{made_most};
 ghost use Rattle.lucid_master.specs.declared.request.Command.TheVariants.{SetParam};
 
 use crate::request::{Command, Request};
 use card::layout::CHANNELS;
 use lucid::form::Lucid;
-use lucid::frame::{PAIR, PAIR_VALUES};
-use wire::BYTE_VALUES;
 
 // The longest frame: four demands.
 pub(crate) const MADE_MOST: usize = Lucid::DATA + CHANNELS * Lucid::DEMAND_SIZE as usize;
+
+// OPC, P1 and P2 of a frame.
+#[derive(Clone, Copy)]
+struct Head {
+    opc: u8,
+    p1: u8,
+    p2: u8,
+}
 
 // Writes the two low bytes of a number, the lower one first.
 fn put_pair(out: &mut [u8], at: usize, x: u32)
     requires { at + pair_size ≤ length out.old }
     ensures { out.new ≡ put out.old at (little pair_size x) }
 {
-    out[at] = (x % BYTE_VALUES) as u8;
-    out[at + 1] = (x / BYTE_VALUES % BYTE_VALUES) as u8;
+    let [low, high, _, _] = x.to_le_bytes();
+    out[at] = low;
+    out[at + 1] = high;
 }
 
 // Writes OPC, P1, P2 and LEN.
-fn put_head(out: &mut [u8], opc: u8, request: Request, len: u8)
-    requires { Headed request × (data_at ≤ length out.old) }
-    ensures { Wrote (opc ∷ request.p1 ∷ request.p2 ∷ len ∷ []) out.old data_at out.new }
+fn put_head(out: &mut [u8], head: Head, len: u8)
+    requires { data_at ≤ length out.old }
+    ensures { Wrote (head.opc ∷ head.p1 ∷ head.p2 ∷ len ∷ []) out.old data_at out.new }
 {
-    out[Lucid::OPC] = opc;
-    out[Lucid::P1] = request.p1 as u8;
-    out[Lucid::P2] = request.p2 as u8;
+    out[Lucid::OPC] = head.opc;
+    out[Lucid::P1] = head.p1;
+    out[Lucid::P2] = head.p2;
     out[Lucid::LEN] = len;
 }
 
 // Writes a frame without data.
-fn put_bare(out: &mut [u8], opc: u8, request: Request) -> usize
-    requires { Headed request × (data_at ≤ length out.old) }
-    ensures { Wrote (opc ∷ request.p1 ∷ request.p2 ∷ 0 ∷ []) out.old result out.new }
+fn put_bare(out: &mut [u8], head: Head) -> usize
+    requires { data_at ≤ length out.old }
+    ensures { Wrote (head.opc ∷ head.p1 ∷ head.p2 ∷ 0 ∷ []) out.old result out.new }
 {
-    put_head(out, opc, request, 0);
+    put_head(out, head, 0);
     Lucid::DATA
 }
 
@@ -51,52 +58,44 @@ fn put_demands(out: &mut [u8], values: &[u32])
     ensures { out.new ≡ put out.old data_at (demand_bytes values.now) }
 {
     let mut at = Lucid::DATA;
-    let mut i = 0;
-    while i < values.len() {
-        put_pair(out, at, values[i]);
+    for value in values {
+        put_pair(out, at, *value);
         at += Lucid::DEMAND_SIZE as usize;
-        i += 1;
     }
 }
 
 // Writes a frame that sets demands.
-fn put_set(out: &mut [u8], opc: u8, request: Request, values: &[u32]) -> usize
-    requires { Headed request × ((data_at + demand_size * length values.now ≤ made_most) × (made_most ≤ length out.old)) }
+fn put_set(out: &mut [u8], head: Head, values: &[u32]) -> usize
+    requires { (data_at + demand_size * length values.now ≤ made_most) × (made_most ≤ length out.old) }
     ensures { let bytes = demand_bytes values.now in
-        Wrote (opc ∷ request.p1 ∷ request.p2 ∷ length bytes ∷ bytes) out.old result out.new }
+        Wrote (head.opc ∷ head.p1 ∷ head.p2 ∷ length bytes ∷ bytes) out.old result out.new }
 {
     let len = values.len() * Lucid::DEMAND_SIZE as usize;
-    put_head(out, opc, request, len as u8);
+    put_head(out, head, len as u8);
     put_demands(out, values);
     Lucid::DATA + len
 }
 
 // Writes a frame with the address alone.
-fn put_addressed(out: &mut [u8], opc: u8, request: Request) -> usize
-    requires { Headed request × (made_most ≤ length out.old) }
-    ensures { let bytes = little address_size request.address in
-        Wrote (opc ∷ request.p1 ∷ request.p2 ∷ length bytes ∷ bytes) out.old result out.new }
+fn put_addressed(out: &mut [u8], head: Head, address: u32) -> usize
+    requires { made_most ≤ length out.old }
+    ensures { let bytes = little address_size address in
+        Wrote (head.opc ∷ head.p1 ∷ head.p2 ∷ length bytes ∷ bytes) out.old result out.new }
 {
-    put_head(out, opc, request, Lucid::ADDRESS_SIZE);
-    put_pair(out, Lucid::DATA, request.address);
+    put_head(out, head, Lucid::ADDRESS_SIZE);
+    put_pair(out, Lucid::DATA, address);
     Lucid::VALUE
 }
 
 // Writes a SetParam.
-fn put_set_param(out: &mut [u8], request: Request, value: u32) -> usize
-    requires { Headed request × (made_most ≤ length out.old) }
-    ensures { let bytes = data_of SetParam request.address (value ∷ []) in
-        Wrote (set_param ∷ request.p1 ∷ request.p2 ∷ length bytes ∷ bytes) out.old result out.new }
+fn put_set_param(out: &mut [u8], head: Head, address: u32, value: u32) -> usize
+    requires { made_most ≤ length out.old }
+    ensures { let bytes = data_of SetParam address (value ∷ []) in
+        Wrote (head.opc ∷ head.p1 ∷ head.p2 ∷ length bytes ∷ bytes) out.old result out.new }
 {
-    put_head(
-        out,
-        Lucid::SET_PARAM,
-        request,
-        Lucid::ADDRESS_SIZE + Lucid::PARAMETER_SIZE,
-    );
-    put_pair(out, Lucid::DATA, request.address);
-    put_pair(out, Lucid::VALUE, value);
-    put_pair(out, Lucid::VALUE + PAIR, value / PAIR_VALUES);
+    put_head(out, head, Lucid::ADDRESS_SIZE + Lucid::PARAMETER_SIZE);
+    put_pair(out, Lucid::DATA, address);
+    wire::copy(&value.to_le_bytes(), out, Lucid::VALUE);
     Lucid::VALUE + Lucid::PARAMETER_SIZE as usize
 }
 
@@ -106,13 +105,15 @@ pub(crate) fn put_frame(out: &mut [u8], request: Request, values: &[u32]) -> usi
     ensures { Wrote (made (asking_of request values.now)) out.old result out.new }
 {
     let command = request.command;
+    let head = Head {
+        opc: command.opc(),
+        p1: request.p1 as u8,
+        p2: request.p2 as u8,
+    };
     match command {
-        Command::GetIo => put_bare(out, Lucid::GET_IO, request),
-        Command::GetIoGroup => put_bare(out, Lucid::GET_IO_GROUP, request),
-        Command::SetIo => put_set(out, Lucid::SET_IO, request, values),
-        Command::SetIoGroup => put_set(out, Lucid::SET_IO_GROUP, request, values),
-        Command::GetParam => put_addressed(out, Lucid::GET_PARAM, request),
-        Command::SetParam => put_set_param(out, request, values[0]),
-        Command::Reset => put_addressed(out, Lucid::SET_PARAM, request),
+        Command::GetIo | Command::GetIoGroup => put_bare(out, head),
+        Command::SetIo | Command::SetIoGroup => put_set(out, head, values),
+        Command::GetParam | Command::Reset => put_addressed(out, head, request.address),
+        Command::SetParam => put_set_param(out, head, request.address, values[0]),
     }
 }

@@ -9,23 +9,16 @@ ghost use Rattle.lucid_master.specs.Heard.{short_values, is_status, shaped, word
 ghost use Rattle.lucid_master.specs.Stages.{Headed, bare_status};
 
 use crate::request::{Command, Request};
-use asking::{Group, Heard, is_temperature};
+use asking::{Group, Heard, Unread, is_temperature};
 use card::fitness::{DEMAND_MOST, in_range};
 use card::layout::{CHANNELS, PARAMETERS};
-use card::numbers::FRAME_FORM;
 use lucid::form::Lucid;
 use lucid::frame;
-use lucid::frame::PAIR_VALUES;
 
 // A tenth of a degree, in the units of types 40h and 41h.
 const TENTHS: u32 = 1;
 
 const HUNDREDTHS: u32 = 10;
-
-// Type 40h has two bytes, signed: their upper half are the negative numbers, whose words have so much more.
-const SHORT_HALF: u32 = PAIR_VALUES / 2;
-
-const SHORT_MORE: u32 = u32::MAX - PAIR_VALUES + 1;
 
 // The status of a reply that is a status and LEN 0; OK of any other.
 fn bare_status(reply: &[u8]) -> u8
@@ -44,13 +37,17 @@ fn bare_status(reply: &[u8]) -> u8
 fn is_status(status: u8) -> bool
     ensures { result ≡ is_status status }
 {
-    (status == Lucid::NO_SUPPORT)
-        | ((status == Lucid::INV_LENGTH)
-            | ((status == Lucid::INV_P1)
-                | ((status == Lucid::INV_P2)
-                    | ((status == Lucid::INV_VALUE)
-                        | ((status == Lucid::INV_CHANNEL)
-                            | ((status == Lucid::INV_PARAM) | (status == Lucid::INV_DATA)))))))
+    matches!(
+        status,
+        Lucid::NO_SUPPORT
+            | Lucid::INV_LENGTH
+            | Lucid::INV_P1
+            | Lucid::INV_P2
+            | Lucid::INV_VALUE
+            | Lucid::INV_CHANNEL
+            | Lucid::INV_PARAM
+            | Lucid::INV_DATA
+    )
 }
 
 // Whether a reply is OK, LEN and n bytes of data.
@@ -64,15 +61,12 @@ fn is_shaped(reply: &[u8], n: usize) -> bool
     (reply[0] == Lucid::OK) & (reply[1] == n as u8)
 }
 
-// The word of two bytes of type 40h.
+// The word of two bytes of type 40h, which are signed.
 fn short_word(n: u32) -> u32
     requires { n < short_values }
     ensures { result ≡ word_of tenths n }
 {
-    if SHORT_HALF <= n {
-        return n + SHORT_MORE;
-    }
-    n
+    ((n as u16).cast_signed() as i32).cast_unsigned()
 }
 
 // The value of a type that stands at an index.
@@ -103,62 +97,54 @@ fn is_answerable(value_type: u8, value: u32) -> bool
 }
 
 // What is heard where n values of a type were asked for.
-fn hear_values(value_type: u8, n: usize, reply: &[u8]) -> Heard
+fn hear_values(value_type: u8, n: usize, reply: &[u8]) -> Result<Heard, Unread>
     requires { n ≤ channels }
     ensures { hearing_of result ≡ heard_values value_type n reply.now }
 {
     let size = Lucid::size(value_type) as usize;
     if !is_shaped(reply, size * n) {
-        return Heard::Unread(FRAME_FORM);
+        return Err(Unread::Form);
     }
     let mut values = [0u32; CHANNELS];
     let mut at = Lucid::HEAD;
-    let mut i = 0;
-    while i < n {
+    for i in 0..n {
         let value = value_at(value_type, reply, at);
         if !is_answerable(value_type, value) {
-            return Heard::Unread(FRAME_FORM);
+            return Err(Unread::Form);
         }
         values[i] = value;
         at += size;
-        i += 1;
     }
-    Heard::Values(Group {
-        count: n,
-        first: values[0],
-        second: values[1],
-        third: values[2],
-        fourth: values[3],
-    })
+    Ok(Heard::Values(Group::new(&values[..n])))
 }
 
 // What is heard where a parameter was asked for.
-fn hear_parameter(place: u8, reply: &[u8]) -> Heard
+fn hear_parameter(place: u8, reply: &[u8]) -> Result<Heard, Unread>
     requires { place < parameter_count }
     ensures { hearing_of result ≡ heard_parameter place reply.now }
 {
     if !is_shaped(reply, Lucid::PARAMETER_SIZE as usize) {
-        return Heard::Unread(FRAME_FORM);
+        return Err(Unread::Form);
     }
     let value = frame::quad(reply, Lucid::HEAD);
     if !in_range(PARAMETERS + place as usize, value) {
-        return Heard::Unread(FRAME_FORM);
+        return Err(Unread::Form);
     }
-    Heard::Value(value)
+    Ok(Heard::Value(value))
 }
 
 // What is heard where something was set.
-fn hear_done(reply: &[u8]) -> Heard
+fn hear_done(reply: &[u8]) -> Result<Heard, Unread>
     ensures { hearing_of result ≡ heard_done reply.now }
 {
     if !is_shaped(reply, 0) {
-        return Heard::Unread(FRAME_FORM);
+        return Err(Unread::Form);
     }
-    Heard::Done
+    Ok(Heard::Done)
 }
 
 // What is heard in a reply that refuses nothing.
-fn hear_answer(request: Request, reply: &[u8]) -> Heard
+fn hear_answer(request: Request, reply: &[u8]) -> Result<Heard, Unread>
     requires { Headed request }
     ensures { hearing_of result ≡ heard_command request.command request reply.now }
 {
@@ -181,16 +167,16 @@ fn hear_answer(request: Request, reply: &[u8]) -> Heard
 }
 
 // What is heard in a reply to a request that 7 does not refuse, whatever its values.
-pub(crate) fn hear(request: Request, reply: &[u8]) -> Heard
+pub(crate) fn hear(request: Request, reply: &[u8]) -> Result<Heard, Unread>
     requires { Headed request }
     ensures { hearing_of result ≡ heard (asking_of request []) reply.now }
 {
     let status = bare_status(reply);
     if status == Lucid::ERR_EXECUTION {
-        return Heard::Fault;
+        return Ok(Heard::Fault);
     }
     if is_status(status) {
-        return Heard::RefusedFor(status);
+        return Ok(Heard::RefusedFor(status));
     }
     hear_answer(request, reply)
 }

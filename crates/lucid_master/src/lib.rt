@@ -12,11 +12,12 @@ ghost use Rattle.asking.specs.Made.{making};
 ghost use Rattle.lucid_master.specs.Request.{asking_of, askable, made};
 ghost use Rattle.lucid_master.specs.Heard.{heard};
 
-use asking::Heard;
+use asking::{Heard, Unread};
 use card::Outcome;
 use card::numbers::VALUE_OUTSIDE;
 use request::Request;
 
+// Each master has its own make and read: what they share is in asking, and a trait could not give the room of the frame's array.
 // Makes the frame of a request, which sends these values, in a lent buffer.
 pub fn make(request: Request, values: &[u32], out: &mut [u8]) -> Outcome
     ensures { let q = asking_of request values.now in
@@ -34,12 +35,12 @@ pub fn make(request: Request, values: &[u32], out: &mut [u8]) -> Outcome
 }
 
 // Reads a reply to a request that sent these values.
-pub fn read(request: Request, values: &[u32], reply: &[u8]) -> Heard
+pub fn read(request: Request, values: &[u32], reply: &[u8]) -> Result<Heard, Unread>
     ensures { let q = asking_of request values.now in
         hearing_of result ≡ unless_outside (askable q) (heard q reply.now) }
 {
     if !request::is_askable(request, values) {
-        return Heard::Unread(VALUE_OUTSIDE);
+        return Err(Unread::Request);
     }
     hear::hear(request, reply)
 }

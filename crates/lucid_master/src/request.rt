@@ -2,7 +2,7 @@
 ghost use Rattle.std.specs.Prelude.{◌≡◌, ◌&&◌, eqb, length};
 ghost use Rattle.lucid.specs.Form.{demand};
 ghost use Rattle.lucid.specs.Frame.{address_known};
-ghost use Rattle.lucid_master.specs.Request.{asking_of, channel_right, mask_right, type_known, all_demands, askable};
+ghost use Rattle.lucid_master.specs.Request.{asking_of, opc_of, channel_right, mask_right, type_known, all_demands, askable};
 ghost use Rattle.lucid_master.specs.declared.request.Command.TheVariants.{SetIoGroup, SetParam};
 
 use card::fitness::{DEMAND_MOST, in_range};
@@ -15,7 +15,7 @@ const RESET: u32 = Lucid::DEFAULT as u32;
 
 const RESET_SAVED: u32 = Lucid::DEFAULT as u32 + Lucid::PERSISTENT as u32;
 
-// A reset is a SetParam with option bit 01h.
+// What may be asked: seven commands, none of them a case of an Option or a Result. A reset is a SetParam with option bit 01h.
 #[derive(Clone, Copy)]
 pub enum Command {
     GetIo,
@@ -27,7 +27,25 @@ pub enum Command {
     Reset,
 }
 
-// P1 is a channel, of a group a mask; P2 a type or an option; the address a parameter's. The values that it sends are lent beside it.
+impl Command {
+    #[tactic(auto, unfolding(crate::specs::Request::opc_of))]
+    pub(crate) fn opc(self) -> u8
+        ensures { result ≡ opc_of self }
+    {
+        match self {
+            Command::GetIo => Lucid::GET_IO,
+            Command::GetIoGroup => Lucid::GET_IO_GROUP,
+            Command::SetIo => Lucid::SET_IO,
+            Command::SetIoGroup => Lucid::SET_IO_GROUP,
+            Command::GetParam => Lucid::GET_PARAM,
+            Command::SetParam => Lucid::SET_PARAM,
+            Command::Reset => Lucid::SET_PARAM,
+        }
+    }
+}
+
+// P1 is a channel, of a group a mask; P2 a type or an option; the address a parameter's. The values that it sends are lent beside it: a struct of
+// both would hold a reference that make, read and nk_ask_lucid put in and put_frame and is_askable take out again. P1 and P2 are what C hands over.
 #[derive(Clone, Copy)]
 pub struct Request {
     pub command: Command,
@@ -58,14 +76,7 @@ fn type_known(p2: u32) -> bool
 fn all_demands(values: &[u32]) -> bool
     ensures { result ≡ all_demands values.now }
 {
-    let mut i = 0;
-    while i < values.len() {
-        if DEMAND_MOST < values[i] {
-            return false;
-        }
-        i += 1;
-    }
-    true
+    values.iter().all(|value| *value <= DEMAND_MOST)
 }
 
 // Whether type and values of a request to read are right.

@@ -1,9 +1,6 @@
 -- Steps computed: what the step's equation shuts out, each beside what it lets pass. Assumes nothing.
-use mathlib.Core.Path.{◌≡◌, refl}
-use mathlib.Core.List.{List, [], ◌∷◌}
+use Rattle.std.proofs.Common.{◌≡◌, refl, List, [], ◌∷◌, ℕ, replicate}
 use Prim.{Unit, tt}
-use Prim.Native.Nat.{ℕ}
-use lib.ListN.{replicate}
 use Rattle.wire.specs.Choose.{choose}
 use Rattle.wire.specs.Sum.{total, sum_of}
 use Rattle.datalink.specs.Form.{framed}

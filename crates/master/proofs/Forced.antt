@@ -1,12 +1,6 @@
 -- A byte that the same question would not change is a byte with every forced bit as asked; a byte once asked stays. Assumes nothing.
-use mathlib.Core.Path.{◌≡◌, refl, sym, ap, ◌∙◌}
-use mathlib.Core.Logic.{◌↔◌, ⊎_elim}
-use mathlib.Core.Logic.◌⊎◌.{inl, inr}
-use mathlib.Core.List.{List}
-use Prim.Native.Nat.{ℕ, zero, suc, ◌+◌, ◌%◌, ◌/◌, ◌≤◌, ◌<◌, min, max}
-use native.Mathlib.Omega.{arith}
-use lib.Bits.{bit_and, bit_or, and_step, or_step, and_shr, or_shr}
-use lib.ListN.{get_or}
+use Rattle.std.proofs.Common.{◌≡◌, refl, sym, ap, ◌∙◌, ◌↔◌, ⊎_elim, inl, inr, List, ℕ, zero, suc, ◌+◌, ◌%◌, ◌/◌, ◌≤◌, ◌<◌, min, max, arith, bit_and, bit_or, get_or}
+use lib.Bits.{and_step, or_step, and_shr, or_shr}
 use Rattle.master.specs.Request.{Ask, bit_of, Forced, as_asked}
 use Rattle.master.specs.Request.Ask.{bytes, bits}
 

@@ -1,29 +1,23 @@
 -- Laws of specs/Frames.antt: the data of a change, when two lists are the same, and when an answer is a response or an echo. Assumes nothing.
-use mathlib.Core.Path.{◌≡◌, refl, sym, ap, ◌∙◌, subst}
-use mathlib.Core.Bool.{Bool, true, false, ◌&&◌}
-use mathlib.Core.List.{List, [], ◌∷◌, ◌++◌, append_assoc}
+use Rattle.std.proofs.Common.{◌≡◌, refl, sym, ap, ◌∙◌, subst, Bool, true, false, ◌&&◌, List, [], ◌∷◌, ◌++◌, append_assoc, ℕ, zero, suc, ◌+◌, ◌-◌, ◌*◌, ◌%◌, ◌/◌, ◌≤◌, ◌<◌, add-one, arith, eq-eqb, eqb-true, eqb, lit≤, length, get_or, take, drop, set, length-append, length-take, length-drop, drop_of_length-le, take_all, take-suc, take-add, drop-cons, length-take-le}
 use Prim.{tt}
-use Prim.Native.Nat.{ℕ, zero, suc, ◌+◌, ◌-◌, ◌*◌, ◌%◌, ◌/◌, ◌≤◌, ◌<◌}
-use native.Mathlib.Numerals.{add-one}
-use native.Mathlib.Omega.{arith}
-use borrow.Author.Tests.{eq-eqb, eqb-true, eqb-false}
-use lib.Dec.{eqb, lit≤}
-use lib.ListN.{length, get_or, take, drop, set, length-append, length-take, length-drop, drop_of_length-le}
-use lib.Seq.{take_all, take-suc, take-add, take-append_seam, drop-cons, length-take-le}
+use borrow.Author.Tests.{eqb-false}
+use lib.Seq.{take-append_seam}
 use Rattle.wire.proofs.Same.{same_refl, same_true}
 use Rattle.wire.proofs.Tests.{and_true, both, and_assoc, and_true_right, same_test}
 use Rattle.wire.specs.Buffer.{overlay, same, part}
 use Rattle.wire.specs.Sum.{sum_of, byte_values}
 use Rattle.wire.proofs.Buffers.{overlay_set, part_append}
 use Rattle.card.specs.Layout.{data_most}
-use Rattle.datalink.specs.Form.{start, framed, response_bits, change_bits_bits, second_at, frame_data_at}
+use Rattle.datalink.specs.Form.{start, framed, response_bits, second_at, frame_data_at}
 use Rattle.datalink.specs.Answer.{response}
 use Rattle.datalink.proofs.Writes.{framed_length}
-use Rattle.master.specs.Request.{Ask, Request, ask_of, request_of, named_by, named_most, paired, as_asked}
+use Rattle.master.specs.Request.{Ask, Request, ask_in, named_by, named_most, paired, as_asked}
 use Rattle.master.specs.Request.Ask.{bytes, bits}
 use Rattle.master.specs.Frames.{pairs, data_of, command_of, body, change_frame, echo, is_echo, data_in, responds, shown_in, all_asked}
 use Rattle.master.specs.declared.request.Kind.TheVariants.{Bytes, Bits}
-use Rattle.master.specs.declared.request.Request.{Request as Passed}
+use Rattle.master.specs.Askable.{asked_by}
+use Rattle.master.specs.declared.request.Askable.{Askable}
 
 -- masks and states by turns
 
@@ -70,24 +64,19 @@ pair_stored masks states out i h e room =
     ∙ ap (λ (l : List ℕ). overlay l out) (append_assoc ps (m ∷ []) (s ∷ []) ∙ sym (pairs_next masks states i h (omega arith)))
 
 -- the request's change, kind by kind
-module _ (request : Passed) (sent states : List ℕ) (command : ℕ) (told : command ≡ command_of (ask_of request.kind sent states)) where
-  pub change_bytes : request.kind ≡ Bytes
-      → framed (command + request.ia) (body (length sent) request.address sent) ≡ change_frame (request_of request sent states)
+module _ (r : Askable) (command : ℕ) (told : command ≡ command_of (ask_in r.ask)) where
+  pub change_bytes : r.ask.kind ≡ Bytes → framed (command + r.ia) (body (length r.ask.sent.now) r.address r.ask.sent.now) ≡ change_frame (asked_by r)
   unfolding change_frame
   change_bytes e = rw (told, e)
 
-  pub change_bits_law : (d : List ℕ) → request.kind ≡ Bits → length sent ≡ length states → d ≡ pairs sent states
-      → framed (command + request.ia) (body (2 * length sent) request.address d) ≡ change_frame (request_of request sent states)
+  pub change_bits_law : (d : List ℕ) → r.ask.kind ≡ Bits → length r.ask.sent.now ≡ length r.ask.states.now → d ≡ pairs r.ask.sent.now r.ask.states.now
+      → framed (command + r.ia) (body (2 * length r.ask.sent.now) r.address d) ≡ change_frame (asked_by r)
   unfolding change_frame
-  change_bits_law d e l p = rw (told, e, p, pairs_length sent states l)
+  change_bits_law d e l p = rw (told, e, p, pairs_length r.ask.sent.now r.ask.states.now l)
 
-pub command_most : (a : Ask) → command_of a ≤ change_bits_bits
-command_most (bytes sent) = lit≤ tt
-command_most (bits masks states) = lit≤ tt
-
-pub data_few : (a : Ask) → named_by a ≤ named_most a → paired a ≡ true → length (data_of a) ≤ data_most
-data_few (bytes sent) h e = h
-data_few (bits masks states) h e = omega (arith, pairs_length masks states (eqb-true (length masks) (length states) e))
+pub few_of : (a : Ask) → named_by a ≤ named_most a → paired a ≡ true → length (data_of a) ≤ data_most
+few_of (bytes sent) h e = h
+few_of (bits masks states) h e = omega (arith, pairs_length masks states (eqb-true (length masks) (length states) e))
 
 -- two lists of bytes
 

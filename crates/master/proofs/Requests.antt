@@ -1,26 +1,25 @@
 -- Laws of specs/Request.antt: what is known of a request as it is lent, and of one that 7 does not refuse. Assumes nothing.
-use mathlib.Core.Path.{◌≡◌, refl, subst}
-use mathlib.Core.Bool.{true}
-use mathlib.Core.List.{List}
+use Rattle.std.proofs.Common.{◌≡◌, refl, subst, true, List, ℕ, ◌+◌, ◌/◌, ◌≤◌, arith, leb-true, eqb-true, leb, lit≤, length}
 use Prim.{tt}
-use Prim.Native.Nat.{ℕ, ◌+◌, ◌/◌, ◌≤◌}
-use native.Mathlib.Omega.{arith}
-use borrow.Author.Tests.{leb-true, eqb-true}
-use lib.Dec.{leb, lit≤}
-use lib.ListN.{length}
 use Rattle.wire.proofs.Tests.{and_true}
 use Rattle.card.specs.Layout.{data_most}
 use Rattle.card.specs.Fitness.{ia_most}
-use Rattle.master.specs.Request.{Ask, Request, ask_of, request_of, named_by, named_most, paired, address_most, address_end, askable}
+use Rattle.master.specs.Request.{Ask, Request, ask_of, ask_in, named_by, named_most, paired, address_most, address_end, askable}
+use Rattle.master.specs.Frames.{data_of}
+use Rattle.master.proofs.Frames.{few_of}
 use Rattle.master.specs.Request.Ask.{bytes, bits}
 use Rattle.master.specs.Accepted.{Accepted}
 use Rattle.master.specs.declared.request.Kind.{Kind}
 use Rattle.master.specs.declared.request.Kind.TheVariants.{Bytes, Bits}
-use Rattle.master.specs.declared.request.Request.{Request as Passed}
+use Rattle.master.specs.declared.request.Ask.{Ask as Lent}
+use Rattle.master.specs.declared.request.Askable.{Askable}
 
-pub named_sent : (kind : Kind) (sent states : List ℕ) → named_by (ask_of kind sent states) ≡ length sent
-named_sent Bytes sent states = refl
-named_sent Bits sent states = refl
+pub named_sent : (lent : Lent) → named_by (ask_in lent) ≡ length lent.sent.now
+named_sent lent = by lent.kind
+  where
+    by : (kind : Kind) → named_by (ask_of kind lent.sent.now lent.states.now) ≡ length lent.sent.now
+    by Bytes = refl
+    by Bits = refl
 
 pub named_few : (a : Ask) → named_most a ≤ data_most
 named_few (bytes sent) = lit≤ tt
@@ -29,15 +28,19 @@ named_few (bits masks states) = lit≤ tt
 pub paired_bits : (kind : Kind) (sent states : List ℕ) → kind ≡ Bits → paired (ask_of kind sent states) ≡ true → length sent ≡ length states
 paired_bits kind sent states e h = eqb-true (length sent) (length states) (subst (λ (k : Kind). paired (ask_of k sent states) ≡ true) e h)
 
--- how many bytes are lent
-module _ (request : Passed) (sent states : List ℕ) (a : Accepted (request_of request sent states)) where
-  pub sent_few : length sent ≤ data_most
-  sent_few = omega (arith, a.few, named_sent request.kind sent states, named_few (ask_of request.kind sent states))
+-- how many bytes are lent, and how many data bytes the change has
+module _ (r : Askable) where
+  pub sent_few : length r.ask.sent.now ≤ data_most
+  sent_few = omega (arith, r.accepted.few, named_sent r.ask, named_few (ask_in r.ask))
 
-  pub bits_few : request.kind ≡ Bits → length sent + length sent ≤ data_most
+  pub bits_few : r.ask.kind ≡ Bits → length r.ask.sent.now + length r.ask.sent.now ≤ data_most
   bits_few e =
-      let few : length sent ≤ data_most / 2 = subst (λ (k : Kind). named_by (ask_of k sent states) ≤ named_most (ask_of k sent states)) e a.few in
+      let few : length r.ask.sent.now ≤ data_most / 2 =
+      subst (λ (k : Kind). named_by (ask_of k r.ask.sent.now r.ask.states.now) ≤ named_most (ask_of k r.ask.sent.now r.ask.states.now)) e r.accepted.few in
       omega arith
+
+  pub data_few : length (data_of (ask_in r.ask)) ≤ data_most
+  data_few = few_of (ask_in r.ask) r.accepted.few r.accepted.pairs
 
 pub accepted : (q : Request) → askable q ≡ true → Accepted q
 unfolding askable

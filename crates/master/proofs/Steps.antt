@@ -1,7 +1,5 @@
 -- Laws of specs/Step.antt: what makes a step the one that is written. Assumes nothing.
-use mathlib.Core.Path.{◌≡◌, refl, sym, ap, ◌∙◌, subst}
-use mathlib.Core.List.{List}
-use Prim.Native.Nat.{ℕ}
+use Rattle.std.proofs.Common.{◌≡◌, refl, sym, ap, ◌∙◌, subst, List, ℕ}
 use Rattle.wire.proofs.Buffers.{overlay_none}
 use Rattle.card.specs.Numbers.{answered}
 use Rattle.card.specs.Reply.{Wrote}

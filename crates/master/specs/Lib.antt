@@ -1,4 +1,5 @@
 pub mod Request
 pub mod Accepted
+pub mod Askable
 pub mod Frames
 pub mod Step

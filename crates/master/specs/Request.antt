@@ -6,6 +6,7 @@ use Rattle.card.specs.Fitness.{ia_most}
 use Rattle.master.specs.declared.request.Kind.{Kind}
 use Rattle.master.specs.declared.request.Kind.TheVariants.{Bytes, Bits}
 use Rattle.master.specs.declared.request.Request.{Request as Passed}
+use Rattle.master.specs.declared.request.Ask.{Ask as Lent}
 
 -- what is asked: bytes, or masks and states
 pub data Ask : Type 0 where
@@ -25,6 +26,13 @@ ask_of Bits sent states = bits sent states
 
 abbrev pub request_of : Passed → List ℕ → List ℕ → Request
 request_of request sent states = record { ia = request.ia; address = request.address; ask = ask_of request.kind sent states }
+
+-- the same of what is asked as it is lent
+abbrev pub ask_in : Lent → Ask
+ask_in lent = ask_of lent.kind lent.sent.now lent.states.now
+
+abbrev pub request_in : ℕ → ℕ → Lent → Request
+request_in ia address lent = record { ia = ia; address = address; ask = ask_in lent }
 
 -- how many bytes are named
 abbrev pub named_by : Ask → ℕ

@@ -1,16 +1,15 @@
 // The answers that the master takes: an exact echo, and a read-back with everything as asked. An answer is compared where it stands.
-ghost use Rattle.std.specs.Prelude.{◌≡◌, true, ◌*◌, ◌≤◌, length};
+ghost use Rattle.std.specs.Prelude.{◌≡◌, ◌*◌, ◌≤◌, length};
 ghost use Rattle.wire.specs.Buffer.{same};
 ghost use Rattle.card.specs.Layout.{data_most};
 ghost use Rattle.card.specs.Fitness.{ia_most};
-ghost use Rattle.master.specs.Request.{ask_of, request_of, paired, address_most};
-ghost use Rattle.master.specs.Accepted.{Accepted};
+ghost use Rattle.master.specs.Request.{address_most};
+ghost use Rattle.master.specs.Askable.{asked_by};
 ghost use Rattle.master.specs.Frames.{pairs, data_of, is_echo, responds, all_asked, confirms};
 
-use crate::accept;
-use crate::request::{Kind, Request};
+use crate::frame;
+use crate::request::{Askable, Kind};
 use datalink::form::Datalink;
-use wire::BYTE_VALUES;
 
 // Whether bytes shown are masks and states by turns.
 fn is_by_turns(shown: &[u8], masks: &[u8], states: &[u8]) -> bool
@@ -18,37 +17,34 @@ fn is_by_turns(shown: &[u8], masks: &[u8], states: &[u8]) -> bool
     ensures { result ≡ same shown.now (pairs masks.now states.now) }
 {
     let mut ok = true;
-    let mut i = 0;
-    while i < masks.len() {
+    for i in 0..masks.len() {
         let mask = shown[2 * i] == masks[i];
         let state = shown[2 * i + 1] == states[i];
         ok = ok & (mask & state);
-        i += 1;
     }
     ok
 }
 
 // How many data bytes the request's change has.
-fn num_of(request: Request, sent: &[u8], states: &[u8]) -> usize
-    requires { Accepted (request_of request sent.now states.now) }
-    ensures { result ≡ length (data_of (ask_of request.kind sent.now states.now)) }
+fn num_of(request: Askable) -> usize
+    ensures { result ≡ length (data_of (asked_by request.entry).ask) }
 {
-    let kind = request.kind;
-    match kind {
-        Kind::Bytes => sent.len(),
-        Kind::Bits => 2 * sent.len(),
+    let ask = request.ask;
+    match ask.kind {
+        Kind::Bytes => ask.sent.len(),
+        Kind::Bits => 2 * ask.sent.len(),
     }
 }
 
 // Whether bytes shown are the data of the request's change.
-fn is_data(kind: Kind, sent: &[u8], states: &[u8], shown: &[u8]) -> bool
-    requires { let ask = ask_of kind sent.now states.now in
-        (paired ask ≡ true) × (length shown.now ≡ length (data_of ask)) }
-    ensures { result ≡ same shown.now (data_of (ask_of kind sent.now states.now)) }
+fn is_data(request: Askable, shown: &[u8]) -> bool
+    requires { length shown.now ≡ length (data_of (asked_by request).ask) }
+    ensures { result ≡ same shown.now (data_of (asked_by request.entry).ask) }
 {
-    match kind {
-        Kind::Bytes => wire::is_same(shown, sent),
-        Kind::Bits => is_by_turns(shown, sent, states),
+    let ask = request.ask;
+    match ask.kind {
+        Kind::Bytes => wire::is_same(shown, ask.sent),
+        Kind::Bits => is_by_turns(shown, ask.sent, ask.states),
     }
 }
 
@@ -62,13 +58,8 @@ fn is_response(answer: &[u8], ia: u32, num: usize, address: u32) -> bool
         return false;
     }
     let second = Datalink::RESPONSE + ia as u8;
-    let head = [
-        Datalink::START,
-        second,
-        num as u8,
-        (address % BYTE_VALUES) as u8,
-        (address / BYTE_VALUES) as u8,
-    ];
+    let [num, low, high] = frame::place_in(num, address);
+    let head = [Datalink::START, second, num, low, high];
     if !wire::is_same(&answer[..Datalink::DATA], &head) {
         return false;
     }
@@ -76,43 +67,39 @@ fn is_response(answer: &[u8], ia: u32, num: usize, address: u32) -> bool
 }
 
 // Whether an answer is the exact echo of the request's change.
-pub fn is_echo(request: Request, sent: &[u8], states: &[u8], answer: &[u8]) -> bool
-    requires { Accepted (request_of request sent.now states.now) }
-    ensures { result ≡ is_echo (request_of request sent.now states.now) answer.now }
+pub fn is_echo(request: Askable, answer: &[u8]) -> bool
+    ensures { result ≡ is_echo (asked_by request.entry) answer.now }
 {
-    let num = num_of(request, sent, states);
+    let num = num_of(request);
     if !is_response(answer, request.ia, num, request.address) {
         return false;
     }
-    let kind = request.kind;
     let e = Datalink::DATA + num;
-    is_data(kind, sent, states, &answer[Datalink::DATA..e])
+    is_data(request, &answer[Datalink::DATA..e])
 }
 
 // Whether every byte read, or every forced bit, is as asked.
-fn all_asked(kind: Kind, sent: &[u8], states: &[u8], read: &[u8]) -> bool
-    requires { (length sent.now ≤ length read.now) × (paired (ask_of kind sent.now states.now) ≡ true) }
-    ensures { result ≡ all_asked (ask_of kind sent.now states.now) read.now (length sent.now) }
+fn all_asked(request: Askable, read: &[u8]) -> bool
+    requires { length request.ask.sent.now ≤ length read.now }
+    ensures { result ≡ all_asked (asked_by request.entry).ask read.now (length request.entry.ask.sent.now) }
 {
+    let ask = request.ask;
     let mut ok = true;
-    let mut i = 0;
-    while i < sent.len() {
-        let asked = accept::as_asked(kind, sent, states, read[i], i);
+    for i in 0..ask.sent.len() {
+        let asked = ask.as_asked(read[i], i);
         ok = ok & (asked == read[i]);
-        i += 1;
     }
     ok
 }
 
 // Whether an answer is a read-back with everything as asked.
-pub fn is_confirmed(request: Request, sent: &[u8], states: &[u8], answer: &[u8]) -> bool
-    requires { Accepted (request_of request sent.now states.now) }
-    ensures { result ≡ confirms (request_of request sent.now states.now) answer.now }
+pub fn is_confirmed(request: Askable, answer: &[u8]) -> bool
+    ensures { result ≡ confirms (asked_by request.entry) answer.now }
 {
-    if !is_response(answer, request.ia, sent.len(), request.address) {
+    let named = request.ask.sent.len();
+    if !is_response(answer, request.ia, named, request.address) {
         return false;
     }
-    let kind = request.kind;
-    let e = Datalink::DATA + sent.len();
-    all_asked(kind, sent, states, &answer[Datalink::DATA..e])
+    let e = Datalink::DATA + named;
+    all_asked(request, &answer[Datalink::DATA..e])
 }

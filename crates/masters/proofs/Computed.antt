@@ -1,8 +1,6 @@
 -- To unfold `computed` is to unfold every definition of the masters' written meanings and of the card's, for what is computed. Assumes nothing.
+use Rattle.std.proofs.Common.{◌≡◌, true, arith}
 use Prim.{Unit, tt}
-use mathlib.Core.Path.{◌≡◌}
-use mathlib.Core.Bool.{true}
-use native.Mathlib.Omega.{arith}
 use Rattle.wire.specs.Word.{word_values}
 use Rattle.wire.proofs.Computed as wire
 use Rattle.figures.proofs.Computed as figures

@@ -1,8 +1,5 @@
 -- The four claims of crates/asking/specs/Claims.antt for LECOM's master, and that a fault never becomes a temperature. Assumes nothing.
-use Prim.Native.Nat.{ℕ, ◌≤◌}
-use mathlib.Core.Path.{◌≡◌, ap, ◌∙◌}
-use mathlib.Core.List.{[]}
-use lib.ListN.{get_or}
+use Rattle.std.proofs.Common.{◌≡◌, ℕ, ◌≤◌, [], get_or, Some, ap, ◌∙◌}
 use Rattle.card.specs.Layout.{Card}
 use Rattle.card.specs.Probe.{fault_code, reading_of}
 use Rattle.card.specs.Reply.{room_least}
@@ -26,7 +23,7 @@ pub lecom_claims : Claims lecom_master
 lecom_claims = record { means = lecom_means; least = lecom_least_law; hears = lecom_hears; exact = lecom_exact }
 
 -- "LECOM's NAK says only refused; neither becomes a temperature": a read of a probe at fault is heard as refused
-module _ (address code channel : ℕ) (probe : named_by code ≡ Probe channel) where
+module _ (address code channel : ℕ) (probe : named_by code ≡ Some (Probe channel)) where
   abbrev q : Request
   q = record { address = address; task = Read code }
 

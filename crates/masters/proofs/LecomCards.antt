@@ -1,12 +1,5 @@
 -- For every value that a LECOM read may be answered by there is a card at that address that holds it. Assumes nothing.
-use Prim.Native.Nat.{ℕ, ◌+◌, ◌<◌}
-use mathlib.Core.Path.{◌≡◌, sym, ap, ◌∙◌}
-use mathlib.Core.Bool.{true}
-use mathlib.Core.List.{List, [], ◌∷◌}
-use native.Mathlib.Omega.{arith}
-use borrow.Author.Tests.{eqb-true}
-use lib.ListN.{length, set, length-set}
-use lib.Seq.{get_or-set_same, get_or-set_other}
+use Rattle.std.proofs.Common.{◌≡◌, ℕ, ◌+◌, ◌<◌, true, List, [], ◌∷◌, length, set, sym, ap, ◌∙◌, arith, length-set, get_or-set_other, get_or-set_same, eqb-true, Option, Some, None}
 use Rattle.wire.specs.Choose.{choose}
 use Rattle.card.specs.Entries.{with_code}
 use Rattle.card.specs.Layout.{Card, with_words, lecom_address_at, operational_at, registers, channels, word_count}
@@ -19,7 +12,7 @@ use Rattle.lecom.specs.Form.{named_by}
 use Rattle.lecom.specs.Stages.{Has}
 use Rattle.lecom.specs.Answer.{address_of}
 use Rattle.lecom.specs.declared.form.Named.{Named}
-use Rattle.lecom.specs.declared.form.Named.TheVariants.{Register, Probe, Activate, Store, Nothing}
+use Rattle.lecom.specs.declared.form.Named.TheVariants.{Register, Probe, Activate, Store}
 use Rattle.lecom.proofs.Frames.{named_has}
 use Rattle.lecom.proofs.Values.{Ranged}
 use Rattle.asking.specs.Hearing.Hearing.{Gives}
@@ -67,7 +60,7 @@ module _ (address : ℕ) (own : lecom_right address ≡ true) where
           there = get_or-set_other moved (operational_at + k) lecom_address_at value 0 (λ e. omega arith) ∙ some_placed.there;
         }
 
-    register_held : held_by register_card (Register k) ≡ Gives (value ∷ [])
+    register_held : held_by register_card (Some (Register k)) ≡ Gives (value ∷ [])
     unfolding held_by
     register_held = ap (λ (x : ℕ). Gives (x ∷ [])) (get_or-set_same moved (operational_at + k) value 0 (omega (arith, moved_length)))
 
@@ -76,26 +69,26 @@ module _ (address : ℕ) (own : lecom_right address ≡ true) where
   unfolding with_code
   probe_placed channel code h = record { real = real_code some_card channel code some_placed.real (omega arith); there = some_placed.there }
 
-  probe_held : (channel code : ℕ) → channel < channels → code < fault_code → held_by (with_code some_card channel code) (Probe channel) ≡ Gives (tenths_of code ∷ [])
+  probe_held : (channel code : ℕ) → channel < channels → code < fault_code → held_by (with_code some_card channel code) (Some (Probe channel)) ≡ Gives (tenths_of code ∷ [])
   unfolding held_by with_code heard_reading
   probe_held channel code b h = ap (λ (x : ℕ). heard_reading (reading_of x)) (get_or-set_same start_memory channel code 0 (omega arith)) ∙ ap heard_reading (temperature_read code h).taken
 
   -- a card that holds what is named so
-  pub record Holder (n : Named) (value : ℕ) : Type 0 where
+  pub record Holder (n : Option Named) (value : ℕ) : Type 0 where
     pub card : Card
     pub placed : Placed address card
     pub held : held_by card n ≡ Gives (value ∷ [])
 
-  holder : (n : Named) (value : ℕ) → Has n → answerable n value ≡ true → Ranged value → Holder n value
+  holder : (n : Option Named) (value : ℕ) → Has n → answerable n value ≡ true → Ranged value → Holder n value
   unfolding answerable held_by tenths_of
-  holder (Register k) value small can ranged = record { card = register_card k value small ranged; placed = register_placed k value small ranged; held = register_held k value small ranged }
-  holder (Probe channel) value small can ranged =
+  holder (Some (Register k)) value small can ranged = record { card = register_card k value small ranged; placed = register_placed k value small ranged; held = register_held k value small ranged }
+  holder (Some (Probe channel)) value small can ranged =
       let c = tenths_coded value ranged.word can in
       let e : tenths_of c.code ≡ value = omega (arith, c.gives) in
       record { card = with_code some_card channel c.code; placed = probe_placed channel c.code c.below; held = probe_held channel c.code small c.below ∙ ap (λ (x : ℕ). Gives (x ∷ [])) e }
-  holder Activate value small can ranged = record { card = some_card; placed = some_placed; held = ap (λ (x : ℕ). Gives (x ∷ [])) (sym (eqb-true value 0 can)) }
-  holder Store value small can ranged = record { card = some_card; placed = some_placed; held = ap (λ (x : ℕ). Gives (x ∷ [])) (sym (eqb-true value 0 can)) }
-  holder Nothing value small can ranged = let z : ◌≡◌ {A = ℕ} 0 1 = cc in let w : ⊥ = omega (arith, z) in absurd w
+  holder (Some Activate) value small can ranged = record { card = some_card; placed = some_placed; held = ap (λ (x : ℕ). Gives (x ∷ [])) (sym (eqb-true value 0 can)) }
+  holder (Some Store) value small can ranged = record { card = some_card; placed = some_placed; held = ap (λ (x : ℕ). Gives (x ∷ [])) (sym (eqb-true value 0 can)) }
+  holder None value small can ranged = let z : ◌≡◌ {A = ℕ} 0 1 = cc in let w : ⊥ = omega (arith, z) in absurd w
 
   pub held_somewhere : (code value : ℕ) → answerable (named_by code) value ≡ true → Ranged value → Holder (named_by code) value
   held_somewhere code value can ranged = holder (named_by code) value (named_has code) can ranged

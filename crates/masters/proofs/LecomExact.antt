@@ -1,33 +1,25 @@
 -- What LECOM's master hears is what document 01 has: a value, done or refused exactly if some card so answers or refuses, 4 exactly if the BCC alone is wrong, else 3. Assumes nothing.
-use Prim.Native.Nat.{ℕ, ◌+◌, ◌-◌, ◌≤◌}
-use mathlib.Core.Path.{◌≡◌, refl, sym, ap, ◌∙◌, subst}
-use mathlib.Core.Bool.{Bool, true, false}
-use mathlib.Core.Logic.{◌⊎◌, inl, inr, ⊎_elim}
-use mathlib.Core.List.{List, [], ◌∷◌}
-use native.Mathlib.Nat.{add-zero}
-use native.Mathlib.Omega.{arith}
-use lib.ListN.{length, take, take-append-drop}
+use Rattle.std.proofs.Common.{◌≡◌, ℕ, ◌+◌, ◌-◌, ◌≤◌, Bool, true, false, ◌⊎◌, List, [], ◌∷◌, length, take, sym, refl, ap, ◌∙◌, subst, inl, inr, ⊎_elim, add-zero, arith, take-append-drop, Option, Some, None}
 use Rattle.wire.specs.Choose.{choose}
 use Rattle.wire.specs.Buffer.{put, part, same}
 use Rattle.wire.specs.Sum.{byte_values}
 use Rattle.wire.proofs.Buffers.{length_put, take_put, part_front, length_part}
 use Rattle.wire.proofs.Cases.{by_choice}
 use Rattle.wire.proofs.Same.{same_true}
+use Rattle.wire.proofs.Tests.{and_true}
 use Rattle.figures.specs.Signed.{text_of, parsed_of}
-use Rattle.figures.specs.declared.Parsed.{Parsed}
-use Rattle.figures.specs.declared.Parsed.TheVariants.{Value, Wrong}
 use Rattle.figures.proofs.Texts.{text_length}
 use Rattle.card.specs.Numbers.{answered, done, frame_form, check_character, probe_fault}
 use Rattle.card.specs.Layout.{Card}
 use Rattle.card.specs.Fitness.{register_most, lecom_right}
 use Rattle.card.specs.Probe.{reading_of}
-use Rattle.card.specs.Reply.{Reply, Answer, room_least, on_words}
+use Rattle.card.specs.Reply.{Reply, room_least, on_words, WordsReply}
 use Rattle.card.specs.declared.probe.Reading.{Reading}
 use Rattle.card.specs.declared.probe.Reading.TheVariants.{Temperature, Fault}
-use Rattle.lecom.specs.Form.{ack, closing, named_by, known}
+use Rattle.lecom.specs.Form.{ack, closing, named_by, known, writable}
 use Rattle.lecom.specs.Answer.{obeyed, lecom_reply}
 use Rattle.lecom.specs.declared.form.Named.{Named}
-use Rattle.lecom.specs.declared.form.Named.TheVariants.{Register, Probe, Activate, Store, Nothing}
+use Rattle.lecom.specs.declared.form.Named.TheVariants.{Register, Probe, Activate, Store}
 use Rattle.lecom.proofs.Values.{Ranged, span_magnitude, parsed_ranged}
 use Rattle.asking.specs.Against.{against}
 use Rattle.asking.specs.Hearing.{Hearing, is_said, heard_by}
@@ -40,7 +32,7 @@ use Rattle.lecom_master.specs.Heard.{data_at, check_size, answerable, answer_byt
 use Rattle.lecom_master.specs.declared.request.Task.{Task}
 use Rattle.lecom_master.specs.declared.request.Task.TheVariants.{Read, Write}
 use Rattle.lecom_master.specs.declared.request.Request.{Request}
-use Rattle.lecom_master.proofs.Requests.{askable_parts}
+use Rattle.lecom_master.proofs.Requests.{askable_parts, writable_known}
 use Rattle.masters.specs.Lecom.{lecom_master, order_of, heard_reading, held_by, answer_to, checks_in}
 use Rattle.masters.proofs.LecomHears.{heard_own, at_own, answer_length, answer_data_law, answer_read, Tellable, Holds, held_by_law, gives_sent, refused_sent, done_sent, replied, lecom_hears}
 use Rattle.masters.proofs.LecomCards.{held_somewhere}
@@ -57,26 +49,26 @@ three_not_four e = let z : frame_form ≡ check_character = cc in let w : ⊥ = 
 
 -- a reply to a read: a value's answer, one but for its BCC, or neither
 by_heard : (code : ℕ) (r : List ℕ) (P : Hearing → Type 0)
-    → ((v : ℕ) → data_read r ≡ Value v → answerable (named_by code) v ≡ true → r ≡ answer_bytes code v → P (Gives (v ∷ [])))
-    → ((v : ℕ) → data_read r ≡ Value v → answerable (named_by code) v ≡ true → Alike check_size check_size r (answer_bytes code v) → P (Unread check_character))
+    → ((v : ℕ) → data_read r ≡ Some v → answerable (named_by code) v ≡ true → r ≡ answer_bytes code v → P (Gives (v ∷ [])))
+    → ((v : ℕ) → data_read r ≡ Some v → answerable (named_by code) v ≡ true → Alike check_size check_size r (answer_bytes code v) → P (Unread check_character))
     → P (Unread frame_form) → P (heard_task (Read code) r)
 unfolding heard_task heard_value heard_by choose
 by_heard code r P found check other = by (data_read r) refl
   where
-    by : (p : Parsed) → data_read r ≡ p → P (heard_value code r p)
-    by Wrong d = other
-    by (Value v) d =
+    by : (p : Option ℕ) → data_read r ≡ p → P (heard_value code r p)
+    by None d = other
+    by (Some v) d =
         by_choice P (answerable (named_by code) v) _ _
         (λ a. by_against check_size check_size r (answer_bytes code v) (λ (n : ℕ). P (heard_by n (Gives (v ∷ []))))
         (λ k e. found v d a (alike_same check_size check_size r (answer_bytes code v) k e)) (λ k _. check v d a k) other)
         (λ _. other)
 
 -- a value that was read of a reply and may be answered
-read_ranged : (r : List ℕ) (v : ℕ) → data_read r ≡ Value v → Ranged v
+read_ranged : (r : List ℕ) (v : ℕ) → data_read r ≡ Some v → Ranged v
 unfolding data_read
 read_ranged r v = parsed_ranged (part r data_at (length r - closing)) v
 
-tellable : (code : ℕ) (r : List ℕ) (v : ℕ) → data_read r ≡ Value v → answerable (named_by code) v ≡ true → Tellable code v
+tellable : (code : ℕ) (r : List ℕ) (v : ℕ) → data_read r ≡ Some v → answerable (named_by code) v ≡ true → Tellable code v
 tellable code r v d a = let t = read_ranged r v d in record { can = a; word = t.word; most = span_magnitude v t }
 
 -- what a card answers says something
@@ -85,13 +77,13 @@ unfolding heard_reading
 reading_said (Temperature tenths) = refl
 reading_said Fault = refl
 
-named_said : (c : Card) (n : Named) → is_said (held_by c n) ≡ true
+named_said : (c : Card) (n : Option Named) → is_said (held_by c n) ≡ true
 unfolding held_by
-named_said c (Register k) = refl
-named_said c (Probe channel) = reading_said (reading_of _)
-named_said c Activate = refl
-named_said c Store = refl
-named_said c Nothing = refl
+named_said c (Some (Register k)) = refl
+named_said c (Some (Probe channel)) = reading_said (reading_of _)
+named_said c (Some Activate) = refl
+named_said c (Some Store) = refl
+named_said c None = refl
 
 answer_said : (c : Card) (task : Task) → is_said (answer_to c task) ≡ true
 unfolding answer_to
@@ -144,8 +136,8 @@ module _ (address code : ℕ) (asks : Askable lecom_master (record { address = a
       record {
         card = c.card;
         at = a;
-        number = ap (λ (x : Reply). x.number) e ∙ ap (λ (x : Answer). x.number) s;
-        sends = ap (λ (x : Reply). x.bytes) e ∙ ap (λ (x : Answer). x.bytes) s;
+        number = ap (λ (x : Reply). x.number) e ∙ ap (λ (x : WordsReply). x.number) s;
+        sends = ap (λ (x : Reply). x.bytes) e ∙ ap (λ (x : WordsReply). x.bytes) s;
         says = c.held;
       }
 
@@ -173,7 +165,7 @@ module _ (address code : ℕ) (asks : Askable lecom_master (record { address = a
         P : Hearing → Type 0
         P h = h ≡ Unread check_character → Mended lecom_master q r
 
-        mend : (v : ℕ) → data_read r ≡ Value v → answerable (named_by code) v ≡ true → Alike check_size check_size r (answer_bytes code v) → Mended lecom_master q r
+        mend : (v : ℕ) → data_read r ≡ Some v → answerable (named_by code) v ≡ true → Alike check_size check_size r (answer_bytes code v) → Mended lecom_master q r
         mend v d a k =
             let answer = answer_bytes code v in
             let at = length answer - check_size in
@@ -207,10 +199,10 @@ module _ (address code : ℕ) (asks : Askable lecom_master (record { address = a
           let s : part (answer_bytes code v) data_at (length r - closing) ≡ text_of v = rw (← same_length) (answer_data_law code v) in
           part_front r (answer_bytes code v) at front data_at (length r - closing) (omega (arith, n, same_length, text_length v)) (omega arith) ∙ s
 
-      data_read_law : data_read r ≡ Value v
+      data_read_law : data_read r ≡ Some v
       unfolding data_read
       data_read_law =
-          let a : data_read (answer_bytes code v) ≡ Value v = answer_read code v t in
+          let a : data_read (answer_bytes code v) ≡ Some v = answer_read code v t in
           ap (parsed_of register_most) (data_same ∙ sym (answer_data_law code v)) ∙ a
 
       heard_mended : (P : Hearing → Type 0) → P (Gives (v ∷ [])) → P (Unread check_character) → P (heard_task (Read code) r)
@@ -226,10 +218,10 @@ module _ (address code : ℕ) (asks : Askable lecom_master (record { address = a
         by_own q own r P (λ _. inl refl)
         (⊎_elim (λ (x : (value : ℕ) × Holds a.card code value).
         let s = gives_sent address code own named a.card (named_by code) x.0 x.1.held in
-        heard_mended m.characters m.size m.inside x.0 x.1.tellable (sym a.sends ∙ ap (λ (y : Reply). y.bytes) e ∙ ap (λ (y : Answer). y.bytes) s) P (inl refl) (inr refl))
+        heard_mended m.characters m.size m.inside x.0 x.1.tellable (sym a.sends ∙ ap (λ (y : Reply). y.bytes) e ∙ ap (λ (y : WordsReply). y.bytes) s) P (inl refl) (inr refl))
         (λ (h : held_by a.card (named_by code) ≡ Refused []).
         let s = refused_sent address code own named a.card (named_by code) named h in
-        let z : answered ≡ probe_fault = sym a.number ∙ ap (λ (y : Reply). y.number) e ∙ ap (λ (y : Answer). y.number) s in
+        let z : answered ≡ probe_fault = sym a.number ∙ ap (λ (y : Reply). y.number) e ∙ ap (λ (y : WordsReply). y.number) s in
         let w : ⊥ = omega (arith, z) in absurd w)
         (held_by_law a.card a.at.real code named (named_by code) refl))
       where
@@ -252,15 +244,16 @@ module _ (address code value : ℕ) (asks : Askable lecom_master (record { addre
   p = record { address = address; task = Write code value }
 
   acks : Answers lecom_master p Done (ack ∷ [])
-  unfolding obeyed order_of answer_to
+  unfolding order_of answer_to task_right
   acks =
       let e = replied p asks (card p own) (some_at p own) room_least (omega arith) in
-      let s = done_sent address code value own in
+      let named = writable_known (named_by code) (and_true (writable (named_by code)) _ (askable_parts p asks.right).1).0 in
+      let s = done_sent address code value own (card p own) (named_by code) named in
       record {
         card = card p own;
         at = some_at p own;
-        number = ap (λ (x : Reply). x.number) e ∙ ap (λ (x : Answer). x.number) s;
-        sends = ap (λ (x : Reply). x.bytes) e ∙ ap (λ (x : Answer). x.bytes) s;
+        number = ap (λ (x : Reply). x.number) e ∙ s.0;
+        sends = ap (λ (x : Reply). x.bytes) e ∙ s.1;
         says = refl;
       }
 

@@ -1,14 +1,6 @@
 -- What a LECOM card answers to a made request is heard as what it holds. Assumes nothing.
-use Prim.Native.Nat.{ℕ, ◌+◌, ◌-◌, ◌/◌, ◌%◌, ◌≤◌, ◌<◌}
-use mathlib.Core.Path.{◌≡◌, refl, sym, ap, ◌∙◌, subst}
-use mathlib.Core.Bool.{Bool, true, false, not}
-use mathlib.Core.Logic.{◌⊎◌, inl, inr, ⊎_elim}
-use mathlib.Core.List.{List, [], ◌∷◌, append_assoc}
-use native.Mathlib.Omega.{arith}
-use borrow.Author.Tests.{le-leb, leb-true, eqb-true, eqb-false, eq-eqb, ne_eqb, not-true}
-use lib.Dec.{leb, eqb}
-use lib.ListN.{length, get_or, length-append}
-use lib.Seq.{take_at}
+use Rattle.std.proofs.Common.{◌≡◌, ℕ, ◌+◌, ◌-◌, ◌/◌, ◌%◌, ◌<◌, ◌≤◌, Bool, true, false, not, eqb, leb, ◌⊎◌, List, [], ◌∷◌, length, get_or, sym, refl, ap, ◌∙◌, subst, inl, inr, ⊎_elim, append_assoc, arith, length-append, take_at, eq-eqb, ne_eqb, eqb-true, le-leb, leb-true, Option, Some, None}
+use borrow.Author.Tests.{eqb-false, not-true}
 use Rattle.wire.specs.Choose.{choose}
 use Rattle.wire.specs.Buffer.{part, same}
 use Rattle.wire.specs.Word.{minus, word_values}
@@ -16,25 +8,25 @@ use Rattle.wire.proofs.Same.{lengths_apart}
 use Rattle.wire.proofs.Tests.{and_true, and_false_right, either, refuted}
 use Rattle.figures.specs.Figure.{decimal, base, char_of, pair_of}
 use Rattle.figures.specs.Signed.{text_of, magnitude, parsed_of}
-use Rattle.figures.specs.declared.Parsed.TheVariants.{Value}
 use Rattle.figures.proofs.Characters.{char_least}
 use Rattle.figures.proofs.Texts.{text_length, parse_text, magnitude_negative, magnitude_positive}
 use Rattle.card.specs.Numbers.{answered, probe_fault}
 use Rattle.card.specs.Layout.{Card, lecom_address_at, operational_at}
 use Rattle.card.specs.Fitness.{in_span, in_range, fit, register_most, lecom_most, lecom_right, lecom_least}
 use Rattle.card.specs.Probe.{fault_code, tenths_below, tenths_of, reading_of}
-use Rattle.card.specs.Reply.{Answer, room_least, shell, on_words}
+use Rattle.card.specs.Reply.{room_least, shell, on_words, WordsReply, leaving}
 use Rattle.card.specs.declared.probe.Reading.{Reading}
 use Rattle.card.specs.declared.probe.Reading.TheVariants.{Temperature, Fault}
 use Rattle.card.proofs.Facts.{fit_facts}
 use Rattle.card.proofs.Probes.{tenths_most, temperature_read, fault_read}
 use Rattle.card.proofs.Ranges.{words_at, at_register}
-use Rattle.lecom.specs.Form.{eot, ack, nak, extended_mark, closing, named_by, known}
-use Rattle.lecom.specs.Frame.{collective, is_write, is_extended, code_of, bcc_of, asked}
+use Rattle.lecom.specs.Form.{eot, ack, nak, extended_mark, closing, named_by, known, writable}
+use Rattle.lecom.specs.Frame.{collective, is_write, is_extended, code_of, bcc_of, asked, ordering}
 use Rattle.lecom.specs.Stages.{Has}
 use Rattle.lecom.specs.Answer.{value_body, value_bytes, refusal_bytes, done_by, refused_by, probe_answer, read_answer, obeyed, address_of, lecom_reply}
 use Rattle.lecom.specs.declared.form.Named.{Named}
-use Rattle.lecom.specs.declared.form.Named.TheVariants.{Register, Probe, Activate, Store, Nothing}
+use Rattle.lecom.specs.declared.frame.Order.TheVariants.{Read as ReadOrder, Write as WriteOrder}
+use Rattle.lecom.specs.declared.form.Named.TheVariants.{Register, Probe, Activate, Store}
 use Rattle.lecom.proofs.Frames.{named_has, read_start, standard_code}
 use Rattle.lecom.proofs.Values.{span_magnitude}
 use Rattle.asking.specs.Hearing.{heard_by}
@@ -47,7 +39,7 @@ use Rattle.lecom_master.specs.Heard.{data_at, check_size, answerable, answer_byt
 use Rattle.lecom_master.specs.declared.request.Task.{Task}
 use Rattle.lecom_master.specs.declared.request.Task.TheVariants.{Read, Write}
 use Rattle.lecom_master.specs.declared.request.Request.{Request}
-use Rattle.lecom_master.proofs.Requests.{unit_most, ones, askable_parts, checked_length}
+use Rattle.lecom_master.proofs.Requests.{unit_most, ones, askable_parts, checked_length, writable_known}
 use Rattle.lecom_master.proofs.Unknowns.{text_size, unknown_says, too_short}
 use Rattle.masters.specs.Lecom.{lecom_master, order_of, addresses, asked_of, heard_reading, held_by, answer_to}
 use Rattle.masters.proofs.LecomMeans.{read_at, read_code_end, lecom_means}
@@ -133,7 +125,7 @@ module _ (code value : ℕ) where
       (ap (λ (l : List ℕ). is_unknown (asked address (read_of address l))) (sym answer_body) ∙ b.1)) in
       rw (lengths_apart r (nak ∷ []) (λ e. omega (arith, e, answer_length, text_length value)), ← u)
 
-  pub answer_read : Tellable code value → data_read (answer_bytes code value) ≡ Value value
+  pub answer_read : Tellable code value → data_read (answer_bytes code value) ≡ Some value
   unfolding data_read
   answer_read t = ap (parsed_of register_most) answer_data_law ∙ parse_text register_most value t.word t.most
 
@@ -143,7 +135,7 @@ module _ (code value : ℕ) where
   heard_value_law t = rw (answer_read t, t.can, against_same check_size check_size (answer_bytes code value))
 
 -- the tenths of a code below 255 may be told
-tenths_told : (code channel k : ℕ) → named_by code ≡ Probe channel → k < fault_code → Tellable code (tenths_of k)
+tenths_told : (code channel k : ℕ) → named_by code ≡ Some (Probe channel) → k < fault_code → Tellable code (tenths_of k)
 unfolding answerable tenths_of in_span choose
 tenths_told code channel k e h =
     let w : tenths_of k < word_values = omega arith in
@@ -164,20 +156,20 @@ module _ (card : Card) (real : Real card) (code : ℕ) (named : known (named_by 
   abbrev Out : Type 0
   Out = ((value : ℕ) × Holds card code value) ⊎ (held_by card (named_by code) ≡ Refused [])
 
-  zero_held : (n : Named) → named_by code ≡ n → held_by card n ≡ Gives (0 ∷ []) → answerable n 0 ≡ true → Out
+  zero_held : (n : Option Named) → named_by code ≡ n → held_by card n ≡ Gives (0 ∷ []) → answerable n 0 ≡ true → Out
   zero_held n e h a = inl (0, record { held = ap (held_by card) e ∙ h; tellable = record { can = rw e a; word = omega arith; most = omega (arith, magnitude_positive 0 (omega arith)) } })
 
-  pub held_by_law : (n : Named) → named_by code ≡ n → Out
+  pub held_by_law : (n : Option Named) → named_by code ≡ n → Out
   unfolding held_by answerable heard_reading
-  held_by_law (Register k) e =
+  held_by_law (Some (Register k)) e =
       let w = get_or card.words (operational_at + k) 0 in
       let t = fit_facts card real.fits in
-      let b : Has (Register k) = subst Has e (named_has code) in
+      let b : Has (Some (Register k)) = subst Has e (named_has code) in
       let j = operational_at + k in
       let i : in_span (minus register_most) register_most w ≡ true = at_register j w (omega arith) ∙ words_at card.words t.words_fit j (omega (arith, b, t.words_length)) in
       let l : w < word_values = real.words (operational_at + k) in
       inl (w, record { held = rw e; tellable = record { can = rw e; word = l; most = span_magnitude w (record { within = i; word = l }) } })
-  held_by_law (Probe channel) e = by (eqb k fault_code) refl
+  held_by_law (Some (Probe channel)) e = by (eqb k fault_code) refl
     where
       k : ℕ
       k = get_or card.memory channel 0
@@ -187,9 +179,9 @@ module _ (card : Card) (real : Real card) (code : ℕ) (named : known (named_by 
       by false f =
           let l : k < fault_code = omega (arith, eqb-false k fault_code f, real.bytes channel) in
           inl (tenths_of k, record { held = rw e (ap heard_reading (temperature_read k l).taken); tellable = tenths_told code channel k e l })
-  held_by_law Activate e = zero_held Activate e refl refl
-  held_by_law Store e = zero_held Store e refl refl
-  held_by_law Nothing e = let z : false ≡ true = rw e at named in let y : ◌≡◌ {A = ℕ} 0 1 = cc in let w : ⊥ = omega (arith, y) in absurd w
+  held_by_law (Some Activate) e = zero_held (Some Activate) e refl refl
+  held_by_law (Some Store) e = zero_held (Some Store) e refl refl
+  held_by_law None e = let z : false ≡ true = rw e at named in let y : ◌≡◌ {A = ℕ} 0 1 = cc in let w : ⊥ = omega (arith, y) in absurd w
 
 -- What a card sends
 
@@ -220,35 +212,50 @@ module _ (address code : ℕ) (own : lecom_right address ≡ true) (named : know
   fault_sent = rw single
 
   module _ (card : Card) where
-    pub gives_sent : (n : Named) (value : ℕ) → held_by card n ≡ Gives (value ∷ []) → read_answer card.words card.memory (made q) n ≡ record { number = answered; bytes = answer_bytes code value }
-    unfolding held_by read_answer heard_reading probe_answer
-    gives_sent (Register k) value e = let s : get_or card.words (operational_at + k) 0 ≡ value = cc in rw s (sent value)
-    gives_sent (Probe channel) value e = by (reading_of (get_or card.memory channel 0)) e
+    -- what the card makes of the read, by what its code names
+    abbrev pub read_reply : Option Named → WordsReply
+    read_reply n = obeyed card.words card.memory (made q) (ordering ReadOrder n)
+
+    pub gives_sent : (n : Option Named) (value : ℕ) → held_by card n ≡ Gives (value ∷ [])
+        → read_reply n ≡ leaving card.words (record { number = answered; bytes = answer_bytes code value })
+    unfolding held_by obeyed read_answer heard_reading probe_answer
+    gives_sent (Some (Register k)) value e = let s : get_or card.words (operational_at + k) 0 ≡ value = cc in rw s (ap (leaving card.words) (sent value))
+    gives_sent (Some (Probe channel)) value e = ap (leaving card.words) (by (reading_of (get_or card.memory channel 0)) e)
       where
         by : (k : Reading) → heard_reading k ≡ Gives (value ∷ []) → probe_answer (made q) k ≡ record { number = answered; bytes = answer_bytes code value }
         by (Temperature tenths) e = let s : tenths.0 ≡ value = cc in rw s (sent value)
         by Fault e = let z : ◌≡◌ {A = ℕ} 0 1 = cc in let w : ⊥ = omega (arith, z) in absurd w
-    gives_sent Activate value e = let s : 0 ≡ value = cc in rw (← s) (sent 0)
-    gives_sent Store value e = let s : 0 ≡ value = cc in rw (← s) (sent 0)
-    gives_sent Nothing value e = let z : ◌≡◌ {A = ℕ} 0 1 = cc in let w : ⊥ = omega (arith, z) in absurd w
+    gives_sent (Some Activate) value e = let s : 0 ≡ value = cc in rw (← s) (ap (leaving card.words) (sent 0))
+    gives_sent (Some Store) value e = let s : 0 ≡ value = cc in rw (← s) (ap (leaving card.words) (sent 0))
+    gives_sent None value e = let z : ◌≡◌ {A = ℕ} 0 1 = cc in let w : ⊥ = omega (arith, z) in absurd w
 
-    pub refused_sent : (n : Named) → known n ≡ true → held_by card n ≡ Refused [] → read_answer card.words card.memory (made q) n ≡ record { number = probe_fault; bytes = nak ∷ [] }
-    unfolding held_by read_answer heard_reading probe_answer
-    refused_sent (Register k) h e = let z : ◌≡◌ {A = ℕ} 0 1 = cc in let w : ⊥ = omega (arith, z) in absurd w
-    refused_sent (Probe channel) h e = by (reading_of (get_or card.memory channel 0)) e
+    pub refused_sent : (n : Option Named) → known n ≡ true → held_by card n ≡ Refused []
+        → read_reply n ≡ leaving card.words (record { number = probe_fault; bytes = nak ∷ [] })
+    unfolding held_by obeyed read_answer heard_reading probe_answer
+    refused_sent (Some (Register k)) h e = let z : ◌≡◌ {A = ℕ} 0 1 = cc in let w : ⊥ = omega (arith, z) in absurd w
+    refused_sent (Some (Probe channel)) h e = ap (leaving card.words) (by (reading_of (get_or card.memory channel 0)) e)
       where
         by : (k : Reading) → heard_reading k ≡ Refused [] → probe_answer (made q) k ≡ record { number = probe_fault; bytes = nak ∷ [] }
         by (Temperature tenths) e = let z : ◌≡◌ {A = ℕ} 0 1 = cc in let w : ⊥ = omega (arith, z) in absurd w
         by Fault e = fault_sent
-    refused_sent Activate h e = let z : ◌≡◌ {A = ℕ} 0 1 = cc in let w : ⊥ = omega (arith, z) in absurd w
-    refused_sent Store h e = let z : ◌≡◌ {A = ℕ} 0 1 = cc in let w : ⊥ = omega (arith, z) in absurd w
-    refused_sent Nothing h e = let z : ◌≡◌ {A = ℕ} 0 1 = cc in let w : ⊥ = omega (arith, z) in absurd w
+    refused_sent (Some Activate) h e = let z : ◌≡◌ {A = ℕ} 0 1 = cc in let w : ⊥ = omega (arith, z) in absurd w
+    refused_sent (Some Store) h e = let z : ◌≡◌ {A = ℕ} 0 1 = cc in let w : ⊥ = omega (arith, z) in absurd w
+    refused_sent None h e = let z : ◌≡◌ {A = ℕ} 0 1 = cc in let w : ⊥ = omega (arith, z) in absurd w
 
--- ACK to a write
-pub done_sent : (address code value : ℕ) → lecom_right address ≡ true
-    → done_by (collective (made (record { address = address; task = Write code value }))) (ack ∷ []) ≡ record { number = answered; bytes = ack ∷ [] }
-unfolding done_by made choose
-done_sent address code value own = rw (not_collective address own (task_bytes (Write code value)))
+-- a write at a unit's own address
+module _ (address code value : ℕ) (own : lecom_right address ≡ true) (card : Card) where
+  abbrev pub write : Request
+  write = record { address = address; task = Write code value }
+
+  -- what the card makes of it, by what its code names
+  abbrev pub write_reply : Option Named → WordsReply
+  write_reply n = obeyed card.words card.memory (made write) (ordering (λ (named : Named). WriteOrder named value) n)
+
+  -- ACK
+  pub done_sent : (n : Option Named) → known n ≡ true → ((write_reply n).number ≡ answered) × ((write_reply n).bytes ≡ ack ∷ [])
+  unfolding obeyed done_by made choose
+  done_sent (Some named) h = rw (not_collective address own (task_bytes (Write code value))) (refl, refl)
+  done_sent None h = let z : ◌≡◌ {A = ℕ} 0 1 = cc in let w : ⊥ = omega (arith, z) in absurd w
 
 -- the entry on a card at the request's address
 module _ (q : Request) (asks : Askable lecom_master q) (card : Card) (a : At lecom_master q card) (room : ℕ) (fits : room_least ≤ room) where
@@ -280,15 +287,16 @@ told_task : (address : ℕ) (task : Task) → lecom_right address ≡ true → t
 unfolding obeyed order_of task_right answer_to
 told_task address (Read code) own named card real =
     ⊎_elim (λ (x : (value : ℕ) × Holds card code value).
-    ap (λ (a : Answer). heard q a.bytes) (gives_sent address code own named card (named_by code) x.0 x.1.held) ∙ heard_gives address code x.0 own x.1.tellable ∙ sym x.1.held)
+    ap (λ (r : WordsReply). heard q r.bytes) (gives_sent address code own named card (named_by code) x.0 x.1.held) ∙ heard_gives address code x.0 own x.1.tellable ∙ sym x.1.held)
     (λ (h : held_by card (named_by code) ≡ Refused []).
-    ap (λ (a : Answer). heard q a.bytes) (refused_sent address code own named card (named_by code) named h) ∙ heard_nak q own ∙ sym h)
+    ap (λ (r : WordsReply). heard q r.bytes) (refused_sent address code own named card (named_by code) named h) ∙ heard_nak q own ∙ sym h)
     (held_by_law card real code named (named_by code) refl)
   where
     q : Request
     q = record { address = address; task = Read code }
 told_task address (Write code value) own right card real =
-    ap (λ (a : Answer). heard (record { address = address; task = Write code value }) a.bytes) (done_sent address code value own) ∙ heard_ack address code value own
+    let named = writable_known (named_by code) (and_true (writable (named_by code)) _ right).0 in
+    ap (heard (record { address = address; task = Write code value })) (done_sent address code value own card (named_by code) named).1 ∙ heard_ack address code value own
 
 pub lecom_hears : (q : Request) → Askable lecom_master q → Hears lecom_master q
 lecom_hears q asks =

@@ -1,14 +1,6 @@
 -- A made LECOM request is the least of its frames: every other one is longer. Assumes nothing.
+use Rattle.std.proofs.Common.{◌≡◌, ℕ, suc, ◌+◌, ◌-◌, ◌*◌, ◌/◌, ◌%◌, ◌<◌, ◌≤◌, Bool, true, false, ◌⊎◌, List, [], ◌∷◌, ◌++◌, length, get_or, take, drop, Err, sym, refl, ap, ◌∙◌, subst, inl, inr, ⊎_elim, append_assoc, arith, length-append, take-append-drop, drop_of_length-le, drop-cons, drop-drop, take_at, eqb-true, Option, Some, None}
 use Prim.{tt}
-use Prim.Native.Nat.{ℕ, suc, ◌+◌, ◌-◌, ◌*◌, ◌/◌, ◌%◌, ◌≤◌, ◌<◌}
-use mathlib.Core.Path.{◌≡◌, refl, sym, ap, ◌∙◌, subst}
-use mathlib.Core.Bool.{Bool, true, false}
-use mathlib.Core.Logic.{◌⊎◌, inl, inr, ⊎_elim}
-use mathlib.Core.List.{List, [], ◌∷◌, ◌++◌, append_assoc}
-use native.Mathlib.Omega.{arith}
-use borrow.Author.Tests.{eqb-true}
-use lib.ListN.{length, get_or, take, drop, length-append, take-append-drop, drop_of_length-le}
-use lib.Seq.{take_at, drop-cons, drop-drop}
 use Rattle.wire.specs.Choose.{choose}
 use Rattle.wire.specs.Buffer.{part}
 use Rattle.wire.proofs.Buffers.{length_part}
@@ -16,19 +8,19 @@ use Rattle.wire.proofs.Lengths.{between_facts}
 use Rattle.wire.proofs.Tests.{and_true}
 use Rattle.figures.specs.Figure.{decimal, base, char_of, pair_of}
 use Rattle.figures.specs.Signed.{text_of, parsed_of}
-use Rattle.figures.specs.declared.Parsed.{Parsed}
-use Rattle.figures.specs.declared.Parsed.TheVariants.{Value, Wrong}
 use Rattle.figures.proofs.Known.{char_figure, pair_chars, text_least}
 use Rattle.card.specs.Numbers.{foreign_address}
 use Rattle.card.specs.Fitness.{register_most, lecom_most, lecom_right}
 use Rattle.lecom.specs.Form.{shortest, longest, stx, etx, eot, enq, tens_at, ones_at, start_at, closing, data_least, data_most, named_by, known, writable}
-use Rattle.lecom.specs.Frame.{tens_in, ones_in, collective, reaches, is_write, code_at, is_extended, code_end, bcc_of, bcc_right, pair_in, code_number, subcode_right, named_in, data_of, data_read, value_right, value_in, data_right, ordered, asked}
+use Rattle.lecom.specs.Frame.{tens_in, ones_in, collective, reaches, is_write, code_at, is_extended, code_end, bcc_of, bcc_right, pair_in, code_number, subcode_right, named_in, data_of, data_read, value_right, value_in, data_right, ordered, asked, ordering}
 use Rattle.lecom.specs.declared.form.Named.{Named}
-use Rattle.lecom.specs.declared.frame.Order.TheVariants.{Silent, Read as ReadOrder, Write as WriteOrder}
+use Rattle.lecom.specs.declared.frame.Order.TheVariants.{Read as ReadOrder, Write as WriteOrder}
+use Rattle.lecom.specs.declared.frame.Refusal.TheVariants.{Silent}
 use Rattle.lecom.proofs.Frames.{read_start, write_start, extended_code, standard_hex_law, standard_code, figures_small, write_holds}
 use Rattle.lecom.proofs.Passing.{Passed, Obeyed, asked_passed, order_passed, order_read, order_write_law}
 use Rattle.lecom.proofs.Values.{named_once}
 use Rattle.lecom.proofs.Wholes.{read_size, read_end, write_end}
+use Rattle.lecom.specs.declared.frame.Order.{Order}
 use Rattle.asking.specs.Claims.{ForSame, Askable, Least}
 use Rattle.asking.proofs.Later.{Longer, no_later_law}
 use Rattle.lecom_master.specs.Request.{task_right, body, checked, task_bytes, made}
@@ -41,10 +33,20 @@ use Rattle.masters.proofs.LecomMeans.{lecom_means}
 use Rattle.masters.proofs.LecomAddresses.{address_known_law, some_unit}
 
 -- a value that is taken was read
-took : (named : Named) (p : Parsed) (value : ℕ) → value_right named p ≡ true → value_in p ≡ value → p ≡ Value value
+took : (named : Option Named) (p : Option ℕ) (value : ℕ) → value_right named p ≡ true → value_in p ≡ value → p ≡ Some value
 unfolding value_right value_in
-took named Wrong value h e = let z : ◌≡◌ {A = ℕ} 0 1 = cc in let n : ⊥ = omega (arith, z) in absurd n
-took named (Value v) value h e = ap Value e
+took named None value h e = let z : ◌≡◌ {A = ℕ} 0 1 = cc in let n : ⊥ = omega (arith, z) in absurd n
+took named (Some v) value h e = ap Some e
+
+-- the order of a frame that reads what a code names, and of one that writes it
+read_order : (f : List ℕ) (n : Option Named) → known n ≡ true → ordered f ≡ ordering ReadOrder n → (is_write f ≡ false) × (named_in f ≡ n)
+read_order f None h e = let z : ◌≡◌ {A = ℕ} 0 1 = cc in let w : ⊥ = omega (arith, z) in absurd w
+read_order f (Some named) h e = order_read f named e
+
+write_order : (f : List ℕ) (value : ℕ) (n : Option Named) → known n ≡ true → ordered f ≡ ordering (λ (named : Named). WriteOrder named value) n
+    → (is_write f ≡ true) × ((named_in f ≡ n) × (value_in (data_read f) ≡ value))
+write_order f value None h e = let z : ◌≡◌ {A = ℕ} 0 1 = cc in let w : ⊥ = omega (arith, z) in absurd w
+write_order f value (Some named) h e = order_write_law f named value e
 
 -- a list of six or more by its first elements
 six : (f : List ℕ) → 6 ≤ length f → f ≡ get_or f 0 0 ∷ get_or f 1 0 ∷ get_or f 2 0 ∷ get_or f 3 0 ∷ get_or f 4 0 ∷ get_or f 5 0 ∷ drop 6 f
@@ -76,9 +78,9 @@ module _ (unit : ℕ) (f : List ℕ) (p : Passed unit f) (address : ℕ) (most :
       let n : pair_in f (code_at f) ≡ code = named_once (pair_in f (code_at f)) code named (rw (x, standard_hex_law f x) at e) in
       pair_chars _ _ code (known_byte code named) n
 
-  module _ (code : ℕ) (named : known (named_by code) ≡ true) (o : ordered f ≡ ReadOrder (named_by code)) where
+  module _ (code : ℕ) (named : known (named_by code) ≡ true) (o : ordered f ≡ ordering ReadOrder (named_by code)) where
     abbrev is_read : is_write f ≡ false
-    is_read = (order_read f (named_by code) o).0
+    is_read = (read_order f (named_by code) named o).0
 
     size : length f ≡ code_end f + 1
     size = read_size f is_read p.sized
@@ -98,7 +100,7 @@ module _ (unit : ℕ) (f : List ℕ) (p : Passed unit f) (address : ℕ) (most :
         by : (t : Bool) → is_extended f ≡ t → Longer f whole_read
         by true x = inr (omega (arith, size, extended_code f x, at_start))
         by false x =
-            let c = code_chars code named (order_read f (named_by code) o).1 x in
+            let c = code_chars code named (read_order f (named_by code) named o).1 x in
             let n : length f ≡ 6 = omega (arith, size, standard_code f x, at_start) in
             let d : get_or f 3 0 ≡ char_of (code / base) = rw at_start at c.0 in
             let e : get_or f 4 0 ≡ char_of (code % base) = rw at_start at c.1 in
@@ -106,12 +108,12 @@ module _ (unit : ℕ) (f : List ℕ) (p : Passed unit f) (address : ℕ) (most :
             let r : drop 6 f ≡ [] = drop_of_length-le f {i = 6} (omega arith) in
             inl (six f (omega arith) ∙ rw (first, second, third, d, e, l, r))
 
-  module _ (code value : ℕ) (named : known (named_by code) ≡ true) (o : ordered f ≡ WriteOrder (named_by code) value) where
+  module _ (code value : ℕ) (named : known (named_by code) ≡ true) (o : ordered f ≡ ordering (λ (n : Named). WriteOrder n value) (named_by code)) where
     abbrev n : ℕ
     n = length f
 
     abbrev is_write_law : is_write f ≡ true
-    is_write_law = (order_write_law f (named_by code) value o).0
+    is_write_law = (write_order f value (named_by code) named o).0
 
     at_code : code_at f ≡ start_at + 1
     at_code = write_start f is_write_law
@@ -130,9 +132,9 @@ module _ (unit : ℕ) (f : List ℕ) (p : Passed unit f) (address : ℕ) (most :
     unfolding bcc_right choose
     last_write = eqb-true _ _ (rw (is_write_law, at_code) at p.summed)
 
-    parsed : parsed_of register_most (data_of f) ≡ Value value
+    parsed : parsed_of register_most (data_of f) ≡ Some value
     unfolding data_right data_read choose
-    parsed = took (named_in f) (parsed_of register_most (data_of f)) value (rw is_write_law at p.valued) (order_write_law f (named_by code) value o).1.1
+    parsed = took (named_in f) (parsed_of register_most (data_of f)) value (rw is_write_law at p.valued) (write_order f value (named_by code) named o).1.1
 
     data_length : length (data_of f) ≡ n - closing - code_end f
     unfolding data_of
@@ -169,7 +171,7 @@ module _ (unit : ℕ) (f : List ℕ) (p : Passed unit f) (address : ℕ) (most :
 
       whole : f ≡ eot ∷ char_of (address / decimal) ∷ char_of (address % decimal) ∷ stx ∷ (text ++ (get_or f (n - 1) 0 ∷ []))
       whole =
-          let c = code_chars code named (order_write_law f (named_by code) value o).1.0 x in
+          let c = code_chars code named (write_order f value (named_by code) named o).1.0 x in
           let d : get_or f 4 0 ≡ char_of (code / base) = rw at_code at c.0 in
           let e : get_or f 5 0 ≡ char_of (code % base) = rw at_code at c.1 in
           six f (omega (arith, write_size, ends_at)) ∙ rw (first, second, third, fourth, d, e, rest) (simp append_assoc)
@@ -198,20 +200,24 @@ module _ (unit : ℕ) (f : List ℕ) (p : Passed unit f) (address : ℕ) (most :
             least_text
 
 -- a frame that asks a unit what was order_of
-task_obeyed : (task : Task) → Obeyed (order_of task)
-unfolding order_of
-task_obeyed (Read code) = tt
-task_obeyed (Write code value) = tt
+ordering_obeyed : (order : Named → Order) (n : Option Named) → known n ≡ true → Obeyed (ordering order n)
+ordering_obeyed order None h = let z : ◌≡◌ {A = ℕ} 0 1 = cc in let w : ⊥ = omega (arith, z) in absurd w
+ordering_obeyed order (Some named) h = tt
 
-tests : (unit : ℕ) (q : Request) (f : List ℕ) → asked unit f ≡ asked_of q unit → addresses q.address unit ≡ true → Passed unit f × (ordered f ≡ order_of q.task)
+task_obeyed : (task : Task) → task_right task ≡ true → Obeyed (order_of task)
+unfolding order_of task_right
+task_obeyed (Read code) h = ordering_obeyed _ (named_by code) h
+task_obeyed (Write code value) h = ordering_obeyed _ (named_by code) (writable_known (named_by code) (and_true (writable (named_by code)) _ h).0)
+
+tests : (unit : ℕ) (q : Request) (f : List ℕ) → task_right q.task ≡ true → asked unit f ≡ asked_of q unit → addresses q.address unit ≡ true → Passed unit f × (ordered f ≡ order_of q.task)
 unfolding asked_of choose
-tests unit q f e h =
+tests unit q f right e h =
     let d : asked unit f ≡ order_of q.task = e ∙ rw h in
-    let p : Passed unit f = order_passed unit f (subst Obeyed (sym d) (task_obeyed q.task)) in
+    let p : Passed unit f = order_passed unit f (subst Obeyed (sym d) (task_obeyed q.task right)) in
     (p, sym (asked_passed unit f p) ∙ d)
 
-not_foreign : (task : Task) (number : ℕ) → order_of task ≡ Silent number → ⊥
-not_foreign task number e = subst Obeyed e (task_obeyed task)
+not_foreign : (task : Task) (number : ℕ) → task_right task ≡ true → order_of task ≡ Err (Silent number) → ⊥
+not_foreign task number right e = subst Obeyed e (task_obeyed task right)
 
 -- whom a frame reaches, by its figures
 reaches_by : (f : List ℕ) (unit : ℕ) → tens_in f < decimal → ones_in f < decimal → reaches unit f ≡ addresses (decimal * tens_in f + ones_in f) unit
@@ -222,7 +228,7 @@ reaches_by f unit t o =
     rw (d, m)
 
 -- a frame for the same request reaches whom the request reaches
-module _ (q : Request) (f : List ℕ) (unit : ℕ) (p : Passed unit f) (o : ordered f ≡ order_of q.task) where
+module _ (q : Request) (f : List ℕ) (unit : ℕ) (right : task_right q.task ≡ true) (p : Passed unit f) (o : ordered f ≡ order_of q.task) where
   moved : (other : ℕ) → reaches other f ≡ true → Passed other f
   moved other r =
       record {
@@ -244,9 +250,9 @@ module _ (q : Request) (f : List ℕ) (unit : ℕ) (p : Passed unit f) (o : orde
   reaches_same other e = by (addresses q.address other) refl (reaches other f) refl
     where
       by : (t : Bool) → addresses q.address other ≡ t → (u : Bool) → reaches other f ≡ u → reaches other f ≡ addresses q.address other
-      by true h u d = (tests other q f e h).0.reached ∙ sym h
+      by true h u d = (tests other q f right e h).0.reached ∙ sym h
       by false h false d = d ∙ sym h
-      by false h true d = absurd (not_foreign q.task foreign_address (sym o ∙ sym (asked_passed other f (moved other d)) ∙ e ∙ rw h))
+      by false h true d = absurd (not_foreign q.task foreign_address right (sym o ∙ sym (asked_passed other f (moved other d)) ∙ e ∙ rw h))
 
 longer : (address : ℕ) (task : Task) (unit : ℕ) (f : List ℕ) → task_right task ≡ true → Passed unit f → ordered f ≡ order_of task → address ≤ lecom_most
     → tens_in f ≡ address / decimal → ones_in f ≡ address % decimal → Longer f (made (record { address = address; task = task }))
@@ -260,11 +266,11 @@ made_least q right f same =
     let most = address_most_law q.address r.0 in
     let asks : (unit : ℕ) → lecom_right unit ≡ true → asked unit f ≡ asked_of q unit = λ unit h. same.asks unit h ∙ (lecom_means q right).means unit in
     let u = some_unit q.address most r.0 in
-    let t = tests u.unit q f (asks u.unit u.right) u.reached in
+    let t = tests u.unit q f r.1 (asks u.unit u.right) u.reached in
     let g = figures_small f (omega (arith, (between_facts shortest longest (length f) t.0.long).0)) t.0.figured in
     let e : decimal * tens_in f + ones_in f ≡ q.address =
     address_known_law q.address (decimal * tens_in f + ones_in f) most (omega (arith, g)) r.0
-    (λ unit h. sym (reaches_by f unit g.0 g.1) ∙ reaches_same q f u.unit t.0 t.1 unit (asks unit h)) in
+    (λ unit h. sym (reaches_by f unit g.0 g.1) ∙ reaches_same q f u.unit r.1 t.0 t.1 unit (asks unit h)) in
     longer q.address q.task u.unit f r.1 t.0 t.1 most (omega (arith, g, e)) (omega (arith, g, e))
 
 pub lecom_least_law : (q : Request) → Askable lecom_master q → Least lecom_master q

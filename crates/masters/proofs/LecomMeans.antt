@@ -1,12 +1,6 @@
 -- A made LECOM request means to every unit what was asked. Assumes nothing.
-use Prim.Native.Nat.{ℕ, suc, ◌+◌, ◌-◌, ◌*◌, ◌/◌, ◌%◌, ◌≤◌, ◌<◌}
-use mathlib.Core.Path.{◌≡◌, refl, sym, ap, ◌∙◌}
-use mathlib.Core.Bool.{Bool, true, false}
-use mathlib.Core.List.{List, [], ◌∷◌, ◌++◌, append_assoc}
-use native.Mathlib.Omega.{arith}
-use borrow.Author.Tests.{le-leb, eq-eqb, ne_eqb}
-use lib.ListN.{length, get_or, length-append}
-use lib.Seq.{get_or_at, take_at}
+use Rattle.std.proofs.Common.{◌≡◌, ℕ, suc, ◌+◌, ◌-◌, ◌*◌, ◌/◌, ◌%◌, ◌<◌, ◌≤◌, Bool, true, false, List, [], ◌∷◌, ◌++◌, length, get_or, sym, refl, ap, ◌∙◌, append_assoc, arith, length-append, take_at, eq-eqb, ne_eqb, le-leb, Some}
+use lib.Seq.{get_or_at}
 use Rattle.wire.specs.Choose.{choose}
 use Rattle.wire.specs.Buffer.{part}
 use Rattle.wire.specs.Length.{between}
@@ -15,7 +9,6 @@ use Rattle.wire.specs.Word.{minus, word_values}
 use Rattle.wire.proofs.Tests.{and_true}
 use Rattle.figures.specs.Figure.{decimal, upper_hex, base, char_of, pair_of}
 use Rattle.figures.specs.Signed.{text_of}
-use Rattle.figures.specs.declared.Parsed.TheVariants.{Value}
 use Rattle.figures.proofs.Characters.{char_least, pair_all}
 use Rattle.figures.proofs.Known.{pair_read}
 use Rattle.figures.proofs.Texts.{text_length, parse_text}
@@ -158,7 +151,7 @@ module _ (t o code value : ℕ) (may : writable (named_by code) ≡ true) (range
       let n : length write - closing - (start_at + 1 + standard_hex) ≡ length (text_of value) = omega (arith, write_length_law) in
       rw (write_code_end, n, append_assoc) (take_at (text_of value) _ (length (text_of value)) refl)
 
-  write_parsed : data_read write ≡ Value value
+  write_parsed : data_read write ≡ Some value
   unfolding data_read
   write_parsed = rw write_data (parse_text register_most value word (span_magnitude value (record { within = range; word = word })))
 

@@ -1,14 +1,6 @@
 -- What LECOM's master hears as refused some card refuses so, and the other way round. Assumes nothing.
-use Prim.{tt}
-use Prim.Native.Nat.{ℕ, suc, ◌+◌, ◌-◌, ◌*◌, ◌/◌, ◌%◌, ◌≤◌, ◌<◌}
-use mathlib.Core.Path.{◌≡◌, refl, sym, ap, ◌∙◌, subst}
-use mathlib.Core.Bool.{Bool, true, false, ◌&&◌, not}
-use mathlib.Core.List.{List, [], ◌∷◌, ◌++◌}
-use native.Mathlib.Omega.{arith}
-use borrow.Author.Tests.{eqb-true, not-true}
-use lib.Dec.{eqb}
-use lib.ListN.{length, get_or, take, drop, length-append, take-append-drop, drop_of_length-le}
-use lib.Seq.{take_at, drop-cons, drop-drop}
+use Rattle.std.proofs.Common.{◌≡◌, ℕ, suc, ◌+◌, ◌-◌, ◌*◌, ◌/◌, ◌%◌, ◌<◌, ◌≤◌, Bool, true, false, not, ◌&&◌, eqb, List, [], ◌∷◌, ◌++◌, length, get_or, take, drop, Ok, Err, Result, sym, refl, ap, ◌∙◌, subst, arith, length-append, take-append-drop, drop_of_length-le, drop-cons, drop-drop, take_at, eqb-true}
+use borrow.Author.Tests.{not-true}
 use Rattle.wire.specs.Choose.{choose}
 use Rattle.wire.specs.Buffer.{part, same}
 use Rattle.wire.specs.Length.{between}
@@ -27,13 +19,15 @@ use Rattle.card.specs.Reply.{Answer, room_least, shell, on_words, leaving}
 use Rattle.card.specs.declared.probe.Reading.{Reading}
 use Rattle.card.specs.declared.probe.Reading.TheVariants.{Temperature, Fault}
 use Rattle.lecom.specs.Form.{shortest, longest, eot, enq, ack, nak, tens_at, ones_at, start_at}
-use Rattle.lecom.specs.Frame.{tens_in, ones_in, collective, reaches, is_write, code_at, is_extended, hex_at, code_end, code_of, size_right, end_right, code_known, asked}
+use Rattle.lecom.specs.Frame.{tens_in, ones_in, collective, reaches, is_write, code_at, is_extended, hex_at, code_end, code_of, size_right, end_right, asked}
 use Rattle.lecom.specs.Answer.{quietly, value_bytes, refusal_bytes, unknown_bytes, done_by, refused_by, probe_answer, read_answer, obeyed, lecom_reply}
-use Rattle.lecom.specs.declared.form.Named.TheVariants.{Register, Probe, Activate, Store, Nothing}
+use Rattle.lecom.specs.declared.form.Named.TheVariants.{Register, Probe, Activate, Store}
 use Rattle.lecom.specs.declared.frame.Order.{Order}
-use Rattle.lecom.specs.declared.frame.Order.TheVariants.{Silent, Refused, Read, Write}
+use Rattle.lecom.specs.declared.frame.Refusal.{Refusal}
+use Rattle.lecom.specs.declared.frame.Order.TheVariants.{Read, Write}
+use Rattle.lecom.specs.declared.frame.Refusal.TheVariants.{Silent, Refused}
 use Rattle.lecom.proofs.Frames.{bounds, figures_small, read_start}
-use Rattle.lecom.proofs.Passing.{Laid, unknown_laid, Obeyed, order_passed, asked_passed, order_read}
+use Rattle.lecom.proofs.Passing.{Laid, unknown_laid}
 use Rattle.lecom.proofs.Wholes.{read_size, read_end}
 use Rattle.asking.specs.Hearing.{Hearing}
 use Rattle.asking.specs.Hearing.Hearing.{Refused as RefusedHearing}
@@ -89,7 +83,7 @@ module _ (q : Request) (own : lecom_right q.address ≡ true) where
   abbrev bad : List ℕ
   bad = eot ∷ char_of (address / decimal) ∷ char_of (address % decimal) ∷ rest
 
-  bad_asked : asked address bad ≡ Refused frame_form
+  bad_asked : asked address bad ≡ Err (Refused frame_form)
   unfolding asked size_right end_right code_end hex_at is_extended code_at is_write between choose
   bad_asked =
       let m = unit_most address own in
@@ -149,7 +143,7 @@ three (a ∷ b ∷ []) h = let z : ⊥ = omega arith in absurd z
 three (a ∷ b ∷ c ∷ r) h = refl
 
 -- a read to the unit's own address that is refused for its code is the read of that code
-module _ (address : ℕ) (f : List ℕ) (six : asked address f ≡ Refused range_unknown) (single : collective f ≡ false) (reads : is_write f ≡ false) where
+module _ (address : ℕ) (f : List ℕ) (six : asked address f ≡ Err (Refused range_unknown)) (single : collective f ≡ false) (reads : is_write f ≡ false) where
   abbrev laid : Laid address f
   laid = unknown_laid address f six
 
@@ -205,15 +199,6 @@ module _ (address : ℕ) (f : List ℕ) (six : asked address f ≡ Refused range
       let u : same (unknown_bytes f) (unknown_bytes f) ≡ true = same_refl (unknown_bytes f) in
       rw (code_shown, ← itself, u, reads, six) (or_true_right (same (unknown_bytes f) (nak ∷ [])))
 
--- no frame that passes names nothing
-no_read_none : (address : ℕ) (f : List ℕ) → asked address f ≡ Read Nothing → ⊥
-unfolding code_known
-no_read_none address f d =
-    let p = order_passed address f (subst Obeyed (sym d) tt) in
-    let n = (order_read f Nothing (sym (asked_passed address f p) ∙ d)).1 in
-    let z : false ≡ true = rw n at p.known in
-    let y : ◌≡◌ {A = ℕ} 0 1 = cc in omega (arith, y)
-
 module _ (address : ℕ) (card : Card) (f r : List ℕ) (long : 0 < length r) where
   abbrev P : Answer → Type 0
   P a = foreign_address ≤ a.number → a.bytes ≡ r → is_refusal address r ≡ true
@@ -229,7 +214,7 @@ module _ (address : ℕ) (card : Card) (f r : List ℕ) (long : 0 < length r) wh
   unfolding done_by
   by_done quiet bytes = by_choice P quiet _ _ (λ _. silent 1) (λ _ h e. let z : ⊥ = omega arith in absurd z)
 
-  by_refused : (n : ℕ) → (n ≡ range_unknown → asked address f ≡ Refused range_unknown) → P (refused_by f n)
+  by_refused : (n : ℕ) → (n ≡ range_unknown → asked address f ≡ Err (Refused range_unknown)) → P (refused_by f n)
   unfolding refused_by refusal_bytes
   by_refused n six =
       by_choice P (collective f) _ _ (λ _. silent n)
@@ -244,16 +229,15 @@ module _ (address : ℕ) (card : Card) (f r : List ℕ) (long : 0 < length r) wh
   by_probe (Temperature tenths) = by_done (collective f) (value_bytes f tenths.0)
   by_probe Fault = by_refused probe_fault (λ e. let z : ⊥ = omega arith in absurd z)
 
-  back : (o : Order) → asked address f ≡ o → foreign_address ≤ (obeyed card.words card.memory f o).number → (obeyed card.words card.memory f o).bytes ≡ r → is_refusal address r ≡ true
+  back : (o : Result Order Refusal) → asked address f ≡ o → foreign_address ≤ (obeyed card.words card.memory f o).number → (obeyed card.words card.memory f o).bytes ≡ r → is_refusal address r ≡ true
   unfolding obeyed read_answer
-  back (Silent n) d = silent n
-  back (Refused n) d = by_refused n (λ e. d ∙ ap Refused e)
-  back (Read (Register k)) d = by_done (collective f) _
-  back (Read (Probe channel)) d = by_probe _
-  back (Read Activate) d = by_done (collective f) _
-  back (Read Store) d = by_done (collective f) _
-  back (Read Nothing) d = absurd (no_read_none address f d)
-  back (Write named value) d = by_done (collective f) (ack ∷ [])
+  back (Err (Silent n)) d = silent n
+  back (Err (Refused n)) d = by_refused n (λ e. d ∙ ap (λ (k : ℕ). Err (Refused k)) e)
+  back (Ok (Read (Register k))) d = by_done (collective f) _
+  back (Ok (Read (Probe channel))) d = by_probe _
+  back (Ok (Read Activate)) d = by_done (collective f) _
+  back (Ok (Read Store)) d = by_done (collective f) _
+  back (Ok (Write named value)) d = by_done (collective f) (ack ∷ [])
 
 pub refusal_heard : (q : Request) (r : List ℕ) (h : Hearing) → Refuses lecom_master q h r → is_refusal q.address r ≡ true
 refusal_heard q r h c =

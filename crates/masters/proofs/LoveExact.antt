@@ -1,14 +1,5 @@
 -- Love: what is said of a reply is what document 01 has; 4 if its check characters alone are wrong; all else is 3. Assumes nothing.
-use Prim.Native.Nat.{ℕ, ◌+◌, ◌-◌, ◌≤◌, ◌<◌}
-use mathlib.Core.Path.{◌≡◌, refl, sym, ap, ◌∙◌, subst}
-use mathlib.Core.Bool.{Bool, true, false}
-use mathlib.Core.Logic.{◌⊎◌, inl, inr, ⊎_elim}
-use mathlib.Core.List.{List, [], ◌∷◌}
-use native.Mathlib.Omega.{arith}
-use borrow.Author.Tests.{leb-true, ltb-true, ne_eqb}
-use lib.Dec.{leb, eqb}
-use lib.ListN.{length, get_or, set}
-use lib.Seq.{get_or-set_same, get_or-set_other}
+use Rattle.std.proofs.Common.{◌≡◌, ℕ, ◌+◌, ◌-◌, ◌<◌, ◌≤◌, Bool, true, false, eqb, leb, ◌⊎◌, List, [], ◌∷◌, length, get_or, set, Err, Result, sym, refl, ap, ◌∙◌, subst, inl, inr, ⊎_elim, arith, get_or-set_other, get_or-set_same, ltb-true, ne_eqb, leb-true}
 use Rattle.wire.specs.Choose.{choose}
 use Rattle.wire.specs.Buffer.{put, part, same}
 use Rattle.wire.specs.Sum.{byte_values}
@@ -32,7 +23,8 @@ use Rattle.love.specs.Form.{data_at}
 use Rattle.love.specs.Frame.{byte_at, asked}
 use Rattle.love.specs.Answer.{unit_of, error_reply, normal_reply, written_data, value_data, status_data, probe_data, address_of, obeyed, love_reply}
 use Rattle.love.specs.declared.frame.Order.{Order}
-use Rattle.love.specs.declared.frame.Order.TheVariants.{Refused as RefusedOrder}
+use Rattle.love.specs.declared.frame.Refusal.{Refusal}
+use Rattle.love.specs.declared.frame.Refusal.TheVariants.{Refused as RefusedOrder}
 use Rattle.asking.specs.Hearing.{Hearing, heard_by, is_said}
 use Rattle.asking.specs.Hearing.Hearing.{Gives, Done, Fault, Refused, Unread}
 use Rattle.asking.specs.Against.{against}
@@ -230,8 +222,8 @@ module _ (q : Request) (a : Askable love_master q) where
         let i = refusal_is q.address r z in
         let f = refusable q.address (leb-true q.address love_address_most (and_true (leb q.address love_address_most) _ right).0) code i.0 in
         let card = unit_card q.address in
-        let e : love_reply card room_least f.frame ≡ on_words card (obeyed card.words card.memory (RefusedOrder f.number code)) =
-        reply_of_law card room_least f.frame unit_at.real.fits (omega arith) ∙ ap (λ (x : Order). on_words card (obeyed card.words card.memory x)) f.orders in
+        let e : love_reply card room_least f.frame ≡ on_words card (obeyed card.words card.memory (Err (RefusedOrder f.number code))) =
+        reply_of_law card room_least f.frame unit_at.real.fits (omega arith) ∙ ap (λ (x : Result Order Refusal). on_words card (obeyed card.words card.memory x)) f.orders in
         let b : (love_reply card room_least f.frame).bytes ≡ r = ap (λ (x : Reply). x.bytes) e ∙ sym i.1 in
         let n : (love_reply card room_least f.frame).number ≡ f.number = ap (λ (x : Reply). x.number) e in
         let l : length r ≡ error_length = ap length i.1 ∙ error_length_law q.address code in

@@ -1,12 +1,6 @@
 -- Love: a card's reply is read as what it answered; and a reply that differs from it in its check characters alone is told by them. Assumes nothing.
-use Prim.Native.Nat.{ℕ, ◌+◌, ◌≤◌, ◌<◌}
-use mathlib.Core.Path.{◌≡◌, refl, sym, ap, ◌∙◌, subst}
-use mathlib.Core.Bool.{Bool, true, false}
-use mathlib.Core.List.{List, [], ◌∷◌}
-use native.Mathlib.Omega.{arith}
-use borrow.Author.Tests.{le-leb, ltb-true, eqb-false, eq-eqb, ne_eqb}
-use lib.Dec.{eqb}
-use lib.ListN.{length, get_or}
+use Rattle.std.proofs.Common.{◌≡◌, ℕ, ◌+◌, ◌<◌, ◌≤◌, Bool, true, false, eqb, List, [], ◌∷◌, length, get_or, Result, sym, refl, ap, ◌∙◌, subst, arith, ltb-true, eq-eqb, ne_eqb, le-leb}
+use borrow.Author.Tests.{eqb-false}
 use Rattle.wire.specs.Choose.{choose}
 use Rattle.wire.specs.Word.{word_values}
 use Rattle.wire.specs.Sum.{byte_values}
@@ -28,6 +22,7 @@ use Rattle.love.specs.Form.{data_at}
 use Rattle.love.specs.Frame.{asked}
 use Rattle.love.specs.Answer.{unit_of, normal_reply, written_data, value_data, fault_char, status_data, probe_data, address_of, obeyed, love_reply}
 use Rattle.love.specs.declared.frame.Order.{Order}
+use Rattle.love.specs.declared.frame.Refusal.{Refusal}
 use Rattle.asking.specs.Hearing.{Hearing, heard_by}
 use Rattle.asking.specs.Hearing.Hearing.{Gives, Fault}
 use Rattle.asking.specs.Steps.{is_temperature}
@@ -77,7 +72,7 @@ unfolding asked_of
 answered_by q a card at room h =
     let unit = address_of card.words in
     let o : asked unit (made q) ≡ order_of q.task = (love_means q a).means unit ∙ sym (yes _ _ _ _ (eq-eqb q.address unit (sym at.there)) refl) in
-    let e = reply_of_law card room (made q) at.real.fits h ∙ ap (λ (x : Order). on_words card (obeyed card.words card.memory x)) o in
+    let e = reply_of_law card room (made q) at.real.fits h ∙ ap (λ (x : Result Order Refusal). on_words card (obeyed card.words card.memory x)) o in
     let b = obeyed_by card q.task in
     (ap (λ (r : Reply). r.number) e ∙ b.0, ap (λ (r : Reply). r.bytes) e ∙ b.1 ∙ ap (λ (n : ℕ). normal_reply n (answer_data card q.task)) at.there)
 

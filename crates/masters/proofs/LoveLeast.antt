@@ -1,14 +1,6 @@
 -- Love: of several frames for one request the master makes the shortest, then the lowest byte by byte. Assumes nothing.
-use Prim.Native.Nat.{ℕ, ◌+◌, ◌/◌, ◌%◌, ◌≤◌, ◌<◌}
-use mathlib.Core.Path.{◌≡◌, refl, sym, ap, ap₂, ◌∙◌, subst}
-use mathlib.Core.Bool.{Bool, true, false, ◌||◌}
-use mathlib.Core.List.{List, [], ◌∷◌, ◌++◌}
-use native.Mathlib.Omega.{arith}
+use Rattle.std.proofs.Common.{◌≡◌, ℕ, ◌+◌, ◌/◌, ◌%◌, ◌<◌, ◌≤◌, Bool, true, false, ◌||◌, eqb, ltb, List, [], ◌∷◌, ◌++◌, length, get_or, drop, Ok, sym, refl, ap, ◌∙◌, subst, ap₂, arith, take-append-drop, drop_of_length-le, drop-cons, drop-drop, lt-ltb, eq-eqb, ne_eqb, eqb-true}
 use native.Mathlib.Decide.{dec_lt}
-use borrow.Author.Tests.{eqb-true, eq-eqb, ne_eqb, lt-ltb}
-use lib.Dec.{ltb, eqb}
-use lib.ListN.{length, get_or, drop, drop_of_length-le, take-append-drop}
-use lib.Seq.{drop-cons, drop-drop}
 use Rattle.wire.specs.Choose.{choose}
 use Rattle.wire.specs.Buffer.{part}
 use Rattle.wire.specs.Word.{minus}
@@ -29,9 +21,10 @@ use Rattle.love.specs.Form.{stx, etx, filter_of, command_at, parameter_at, value
 use Rattle.love.specs.Frame.{byte_at, parameter_of, sign_right, number_in, asked}
 use Rattle.love.specs.Frame.{data_of as frameData}
 use Rattle.love.specs.Answer.{figure_count}
+use Rattle.love.specs.Stages.{order_in}
 use Rattle.love.specs.declared.frame.Order.TheVariants.{Probe, Read as ReadOrder, Write as WriteOrder}
 use Rattle.love.proofs.Hosts.{host_frame}
-use Rattle.love.proofs.Unique.{Carried, Held, asked_held, Shape, shaped, first_four, host_known}
+use Rattle.love.proofs.Unique.{Held, asked_held, Shape, shaped, first_four, host_known}
 use Rattle.asking.specs.Claims.{Askable, Least, no_higher, no_later}
 use Rattle.love_master.specs.declared.request.Task.{Task}
 use Rattle.love_master.specs.declared.request.Task.TheVariants.{Status, Read, Write}
@@ -108,7 +101,7 @@ half_low k =
     (λ _. by_choice (λ (n : ℕ). n < decimal) _ _ _ (λ _. omega arith) (λ _. by_choice (λ (n : ℕ). n < decimal) _ _ _ (λ _. omega arith) (λ _. omega arith)))
 
 -- the data of 00 and of a read are known
-status_known : (s : List ℕ) → Shape s Probe → s ≡ data_of Status
+status_known : (s : List ℕ) → Shape s (Ok Probe) → s ≡ data_of Status
 unfolding data_of pair_of
 status_known s h =
     let a : s ≡ get_or s 0 0 ∷ drop 1 s = drop-cons s 0 0 (omega (arith, h.0)) in
@@ -129,7 +122,7 @@ command_known_law s command k l m c n h =
     ∙ ap₂ (λ (x y : ℕ). x ∷ y ∷ get_or s 2 0 ∷ get_or s 3 0 ∷ drop 4 s) p.0 p.1
     ∙ ap₂ (λ (x y : ℕ). char_of (command / base) ∷ char_of (command % base) ∷ x ∷ y ∷ drop 4 s) g.0 g.1
 
-read_known : (s : List ℕ) (k : ℕ) → Shape s (ReadOrder k) → s ≡ data_of (Read k)
+read_known : (s : List ℕ) (k : ℕ) → Shape s (Ok (ReadOrder k)) → s ≡ data_of (Read k)
 unfolding data_of pair_of
 read_known s k h =
     let e : drop 4 s ≡ [] = drop_of_length-le s {i = 4} (omega (arith, h.0.0)) in
@@ -156,7 +149,7 @@ signed_magnitude true m h = (by (dec_lt 0 m), λ e. refl)
         ap (λ (n : ℕ). magnitude (with_sign true n)) e ∙ magnitude_positive 0 (omega arith) ∙ sym e
 
 -- what is known of a write's data
-module _ (s : List ℕ) (k value : ℕ) (h : Shape s (WriteOrder k value)) where
+module _ (s : List ℕ) (k value : ℕ) (h : Shape s (Ok (WriteOrder k value))) where
   abbrev figures : List ℕ
   figures = part s value_at sign_at
 
@@ -245,10 +238,10 @@ task_least address s (Write place value) h =
     ap₂ (λ (x y : List ℕ). no_later (host_frame address x) (host_frame address y)) (made_signed place value) (write_known s place value h)
     ∙ host_least address place (magnitude value) (char_of (sign_of value / base)) (char_of (sign_of value % base)) (get_or s sign_at 0) (get_or s (sign_at + 1) 0) l.0 l.1
 
-carried : (address : ℕ) (f : List ℕ) (task : Task) → Held address f (order_of task) → Carried address f (order_of task)
-carried address f Status c = c
-carried address f (Read place) c = c
-carried address f (Write place value) c = c
+carried : (address : ℕ) (f : List ℕ) (task : Task) → Held address f (order_of task) → (f ≡ host_frame address (frameData f)) × (order_in (frameData f) ≡ order_of task)
+carried address f Status c = (host_known address f Probe c, c.orders)
+carried address f (Read place) c = (host_known address f (ReadOrder place) c, c.orders)
+carried address f (Write place value) c = (host_known address f (WriteOrder place value) c, c.orders)
 
 pub love_least_law : (q : Request) → Askable love_master q → Least love_master q
 unfolding asked_of
@@ -258,5 +251,5 @@ love_least_law q a =
           let address = q.address in
           let o : asked address f ≡ order_of q.task = k.asks address (askable_facts q a.right).0 ∙ (love_means q a).means address ∙ sym (first _ _ _ _ (eq-eqb address address refl) refl) in
           let c = carried address f q.task (subst (Held address f) o (asked_held address f)) in
-          ap₂ no_later (made_host q) (host_known address f (order_of q.task) c) ∙ task_least address (frameData f) q.task (subst (Shape (frameData f)) c.orders (shaped (frameData f)));
+          ap₂ no_later (made_host q) c.0 ∙ task_least address (frameData f) q.task (subst (Shape (frameData f)) c.1 (shaped (frameData f)));
     }

@@ -1,10 +1,5 @@
 -- Love: a made request means to every unit what was asked. Assumes nothing.
-use Prim.Native.Nat.{ℕ, ◌+◌, ◌/◌, ◌%◌, ◌<◌}
-use mathlib.Core.Path.{◌≡◌, refl, sym, ap, ap₂, ◌∙◌}
-use mathlib.Core.Bool.{Bool, true, false, ◌||◌}
-use native.Mathlib.Omega.{arith}
-use borrow.Author.Tests.{leb-true, ltb-true}
-use lib.Dec.{ltb, eqb}
+use Rattle.std.proofs.Common.{◌≡◌, ℕ, ◌+◌, ◌/◌, ◌%◌, ◌<◌, Bool, true, false, ◌||◌, eqb, ltb, Ok, Err, Result, sym, refl, ap, ◌∙◌, ap₂, arith, ltb-true, leb-true, subst}
 use Rattle.wire.specs.Choose.{choose}
 use Rattle.wire.specs.Length.{between}
 use Rattle.wire.specs.Word.{word_values}
@@ -21,11 +16,13 @@ use Rattle.card.specs.Layout.{love_at, love_count}
 use Rattle.card.specs.Fitness.{in_range, love_address_most}
 use Rattle.love.specs.Form.{plus_sign, minus_sign, sign_at}
 use Rattle.love.specs.Frame.{byte_at, parameter_of, sign_right, number_in, asked}
-use Rattle.love.specs.Stages.{refusal, order_write, order_by, order_in}
+use Rattle.love.specs.Stages.{order_write, order_by, order_in}
 use Rattle.love.specs.Answer.{figure_count}
 use Rattle.love.specs.declared.frame.Order.{Order}
-use Rattle.love.specs.declared.frame.Order.TheVariants.{Silent, Probe, Read as ReadOrder, Write as WriteOrder}
-use Rattle.love.proofs.Carried.{figured}
+use Rattle.love.specs.declared.frame.Refusal.{Refusal}
+use Rattle.love.specs.declared.frame.Order.TheVariants.{Probe, Read as ReadOrder, Write as WriteOrder}
+use Rattle.love.specs.declared.frame.Refusal.TheVariants.{Silent}
+use Rattle.love.proofs.Carried.{Figured, figured}
 use Rattle.love.proofs.Hosts.{host_frame, host_asked}
 use Rattle.asking.specs.Claims.{Askable, Means}
 use Rattle.love_master.specs.declared.request.Task.{Task}
@@ -66,24 +63,24 @@ module _ (place value : ℕ) (word : value < word_values) (small : magnitude val
       ap₂ (λ (t : Bool) (m : ℕ). with_sign t m) (ap (λ (b : ℕ). eqb b minus_sign) write_sign ∙ sign_minus (is_negative value)) (value_digits figure_count (magnitude value) small)
       ∙ sign_magnitude value word
 
-  write_order : in_range (love_at + place) value ≡ true → order_write place (data_of (Write place value)) ≡ WriteOrder place value
+  write_order : in_range (love_at + place) value ≡ true → order_write place (data_of (Write place value)) ≡ Ok (WriteOrder place value)
   unfolding order_write sign_right data_of pair_of digits
   write_order range =
       sym
       (yes _ _ _ _ (digits_figures figure_count (magnitude value))
       (yes _ _ _ _ (rw write_sign (sign_right_law (is_negative value)))
-      (yes _ _ _ _ (rw write_number range) (ap (WriteOrder place) (sym write_number)))))
+      (yes _ _ _ _ (rw write_number range) (ap (λ (word : ℕ). Ok (WriteOrder place word)) (sym write_number)))))
 
 -- the data of a task are judged as the task
 write_judged : (place value : ℕ) → place < love_count → order_in (data_of (Write place value)) ≡ order_write place (data_of (Write place value))
 unfolding order_in order_by parameter_of half_of choose data_of pair_of digits pair_byte figure_of char_of between
 write_judged place value h = by_four (λ k. order_in (data_of (Write k value)) ≡ order_write k (data_of (Write k value))) refl refl refl refl place h
 
-read_judged : (place : ℕ) → place < love_count → order_in (data_of (Read place)) ≡ ReadOrder place
+read_judged : (place : ℕ) → place < love_count → order_in (data_of (Read place)) ≡ Ok (ReadOrder place)
 unfolding order_in order_by parameter_of half_of choose data_of pair_of pair_byte figure_of char_of between
-read_judged place h = by_four (λ k. order_in (data_of (Read k)) ≡ ReadOrder k) refl refl refl refl place h
+read_judged place h = by_four (λ k. order_in (data_of (Read k)) ≡ Ok (ReadOrder k)) refl refl refl refl place h
 
-status_judged : order_in (data_of Status) ≡ Probe
+status_judged : order_in (data_of Status) ≡ Ok Probe
 unfolding order_in choose data_of pair_of pair_byte figure_of char_of between
 status_judged = refl
 
@@ -104,12 +101,12 @@ judged (Write place value) h w =
 
 -- an order that is carried out shows that its data are figures
 data_figures : (task : Task) → order_in (data_of task) ≡ order_of task → all_figures hex (data_of task) ≡ true
-data_figures task e = by task e (figured (data_of task))
+data_figures task e = by task (subst (Figured (data_of task)) e (figured (data_of task)))
   where
-    by : (task : Task) → order_in (data_of task) ≡ order_of task → (refusal (order_in (data_of task)) || all_figures hex (data_of task)) ≡ true → all_figures hex (data_of task) ≡ true
-    by Status e h = rw e at h
-    by (Read place) e h = rw e at h
-    by (Write place value) e h = rw e at h
+    by : (task : Task) → Figured (data_of task) (order_of task) → all_figures hex (data_of task) ≡ true
+    by Status h = h
+    by (Read place) h = h
+    by (Write place value) h = h
 
 love_words : (q : Request) → Askable love_master q → Words q.task
 love_words q a = by q.task refl
@@ -132,5 +129,5 @@ love_means q a =
           let o = judged q.task (askable_facts q a.right).1 (love_words q a) in
           ap (asked unit) (made_host q)
           ∙ host_asked q.address (leb-true q.address love_address_most (askable_address q a.right)) (data_of q.task) (omega (arith, data_most_law q.task)) unit
-          ∙ ap (λ (x : Order). choose (eqb q.address unit) x (Silent foreign_address)) (sym (yes _ _ _ _ (data_figures q.task o) (sym o)));
+          ∙ ap (λ (x : Result Order Refusal). choose (eqb q.address unit) x (Err (Silent foreign_address))) (sym (yes _ _ _ _ (data_figures q.task o) (sym o)));
     }

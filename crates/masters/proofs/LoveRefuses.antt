@@ -1,12 +1,6 @@
 -- Love's refusals: a card refuses with the five codes alone, and for each of them there is a frame that it so refuses. Assumes nothing.
+use Rattle.std.proofs.Common.{◌≡◌, ℕ, zero, suc, ◌-◌, ◌/◌, ◌%◌, ◌<◌, ◌≤◌, Bool, true, List, [], ◌∷◌, ◌++◌, length, get_or, Ok, Err, Result, sym, refl, ◌∙◌, arith, eq-eqb, ne_eqb}
 use Prim.{Unit, tt}
-use Prim.Native.Nat.{ℕ, zero, suc, ◌-◌, ◌/◌, ◌%◌, ◌≤◌, ◌<◌}
-use mathlib.Core.Path.{◌≡◌, refl, sym, ◌∙◌}
-use mathlib.Core.Bool.{Bool, true}
-use mathlib.Core.List.{List, [], ◌∷◌, ◌++◌}
-use native.Mathlib.Omega.{arith}
-use borrow.Author.Tests.{eq-eqb, ne_eqb}
-use lib.ListN.{length, get_or}
 use Rattle.wire.specs.Choose.{choose}
 use Rattle.wire.specs.Length.{between}
 use Rattle.wire.specs.Sum.{byte_values, sum_of}
@@ -23,7 +17,9 @@ use Rattle.love.specs.Frame.{silently, unless, parameter_of, sign_right, number_
 use Rattle.love.specs.Stages.{order_write, order_by, order_in}
 use Rattle.love.specs.Answer.{error_reply, address_of, obeyed}
 use Rattle.love.specs.declared.frame.Order.{Order}
-use Rattle.love.specs.declared.frame.Order.TheVariants.{Silent, Refused, Probe, Read, Write}
+use Rattle.love.specs.declared.frame.Refusal.{Refusal}
+use Rattle.love.specs.declared.frame.Order.TheVariants.{Probe, Read, Write}
+use Rattle.love.specs.declared.frame.Refusal.TheVariants.{Silent, Refused}
 use Rattle.love.proofs.Hosts.{host_frame, host_asked, sent, sent_wrong}
 use Rattle.asking.specs.Claims.{Below}
 use Rattle.asking.proofs.Cards.{every, every_at}
@@ -31,18 +27,16 @@ use Rattle.love_master.specs.Heard.{is_code}
 use Rattle.love_master.proofs.Errors.{by_code}
 
 -- a refusal that is answered has one of the codes
-abbrev pub Coded : Order → Type 0
-Coded (Silent number) = Unit {0}
-Coded (Refused number code) = is_code code ≡ true
-Coded Probe = Unit {0}
-Coded (Read k) = Unit {0}
-Coded (Write k word) = Unit {0}
+abbrev pub Coded : Result Order Refusal → Type 0
+Coded (Err (Silent number)) = Unit {0}
+Coded (Err (Refused number code)) = is_code code ≡ true
+Coded (Ok order) = Unit {0}
 
-or_silent : (t : Bool) (o : Order) (n : ℕ) → Coded o → Coded (silently t n o)
-or_silent t o n p = by_choice Coded t o (Silent n) (λ _. p) (λ _. tt)
+or_silent : (t : Bool) (o : Result Order Refusal) (n : ℕ) → Coded o → Coded (silently t n o)
+or_silent t o n p = by_choice Coded t o (Err (Silent n)) (λ _. p) (λ _. tt)
 
-or_refused : (t : Bool) (o : Order) (n e : ℕ) → is_code e ≡ true → Coded o → Coded (unless t n e o)
-or_refused t o n e c p = by_choice Coded t o (Refused n e) (λ _. p) (λ _. c)
+or_refused : (t : Bool) (o : Result Order Refusal) (n e : ℕ) → is_code e ≡ true → Coded o → Coded (unless t n e o)
+or_refused t o n e c p = by_choice Coded t o (Err (Refused n e)) (λ _. p) (λ _. c)
 
 pub asked_coded : (address : ℕ) (f : List ℕ) → Coded (asked address f)
 unfolding asked is_code
@@ -56,14 +50,14 @@ asked_coded address f =
     (or_refused _ _ _ _ refl tt)))))))))))))))))
 
 -- the bytes of a refusal that is answered
-pub refusal_bytes_law : (words memory : List ℕ) (order : Order) → Coded order → foreign_address ≤ (obeyed words memory order).number → 0 < length (obeyed words memory order).bytes
+pub refusal_bytes_law : (words memory : List ℕ) (order : Result Order Refusal) → Coded order → foreign_address ≤ (obeyed words memory order).number → 0 < length (obeyed words memory order).bytes
     → (code : ℕ) × ((is_code code ≡ true) × ((obeyed words memory order).bytes ≡ error_reply (address_of words) code))
 unfolding obeyed
-refusal_bytes_law words memory (Silent number) c n l = let z : ⊥ = omega arith in absurd z
-refusal_bytes_law words memory (Refused number code) c n l = (code, (c, refl))
-refusal_bytes_law words memory Probe c n l = let z : ⊥ = omega arith in absurd z
-refusal_bytes_law words memory (Read k) c n l = let z : ⊥ = omega arith in absurd z
-refusal_bytes_law words memory (Write k word) c n l = let z : ⊥ = omega arith in absurd z
+refusal_bytes_law words memory (Err (Silent number)) c n l = let z : ⊥ = omega arith in absurd z
+refusal_bytes_law words memory (Err (Refused number code)) c n l = (code, (c, refl))
+refusal_bytes_law words memory (Ok Probe) c n l = let z : ⊥ = omega arith in absurd z
+refusal_bytes_law words memory (Ok (Read k)) c n l = let z : ⊥ = omega arith in absurd z
+refusal_bytes_law words memory (Ok (Write k word)) c n l = let z : ⊥ = omega arith in absurd z
 
 -- bytes
 listed : (s : List ℕ) → every byte_values s ≡ true → Below byte_values s
@@ -109,12 +103,12 @@ pub record Refusable (address code : ℕ) : Type 0 where
   pub bytes : Below byte_values frame
   pub number : ℕ
   pub refuses : foreign_address ≤ number
-  pub orders : asked address frame ≡ Refused number code
+  pub orders : asked address frame ≡ Err (Refused number code)
 
 module _ (address : ℕ) (most : address ≤ love_address_most) where
   -- by its data
   by_data : (d : List ℕ) (number code : ℕ) → length d ≤ longest - shortest → Below byte_values d → foreign_address ≤ number
-      → choose (all_figures hex d) (order_in d) (Refused frame_form illegal_character) ≡ Refused number code → Refusable address code
+      → choose (all_figures hex d) (order_in d) (Err (Refused frame_form illegal_character)) ≡ Err (Refused number code) → Refusable address code
   by_data d number code short p n e =
       record {
         frame = host_frame address d;

@@ -1,11 +1,5 @@
 -- LucidControl: a card's reply to a made frame is heard as what the card answered. Assumes nothing.
-use Prim.Native.Nat.{ℕ, ◌+◌, ◌^◌, ◌≤◌, ◌<◌}
-use mathlib.Core.Path.{◌≡◌, refl, ap, ◌∙◌}
-use mathlib.Core.Bool.{true}
-use mathlib.Core.List.{List, [], ◌∷◌, append-nil}
-use native.Mathlib.Omega.{arith}
-use borrow.Author.Tests.{ltb-true}
-use lib.ListN.{length, get_or}
+use Rattle.std.proofs.Common.{◌≡◌, ℕ, ◌+◌, ◌^◌, ◌<◌, ◌≤◌, true, List, [], ◌∷◌, length, get_or, Result, refl, ap, ◌∙◌, append-nil, arith, ltb-true}
 use Rattle.wire.specs.Choose.{choose}
 use Rattle.wire.specs.Buffer.{same}
 use Rattle.wire.specs.Word.{word_values}
@@ -18,6 +12,7 @@ use Rattle.lucid.specs.Form.{channels_of, parameter_size, ok, little}
 use Rattle.lucid.specs.Frame.{place_of, asked}
 use Rattle.lucid.specs.Answer.{Values, Held, Failed, joined, group, read, obeyed, lucid_reply}
 use Rattle.lucid.specs.declared.frame.Order.{Order}
+use Rattle.lucid.specs.declared.frame.Refusal.{Refusal}
 use Rattle.lucid.proofs.Frames.{place_within}
 use Rattle.lucid.proofs.Laws.{replied, one_channel}
 use Rattle.lucid.proofs.Numbers.{number_little}
@@ -98,7 +93,7 @@ made_order q a =
 pub made_reply : (q : Asking) → Askable lucid_master q → (card : Card) (room : ℕ) → fit card ≡ true → room_least ≤ room
     → lucid_reply card room (made q) ≡ on_words card (obeyed card.words card.memory (made q) (order_of q.request.command q.request.p1 q.request.p2 q.request.address q.values))
 made_reply q a card room h l =
-    replied card room (made q) h l ∙ ap (λ (o : Order). on_words card (obeyed card.words card.memory (made q) o)) (made_order q a)
+    replied card room (made q) h l ∙ ap (λ (o : Result Order Refusal). on_words card (obeyed card.words card.memory (made q) o)) (made_order q a)
 
 -- hears
 pub lucid_hears : (q : Asking) → Askable lucid_master q → Hears lucid_master q

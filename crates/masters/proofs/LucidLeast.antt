@@ -1,15 +1,6 @@
 -- LucidControl: a made frame is the only one for its request, and so the least. Assumes nothing.
+use Rattle.std.proofs.Common.{◌≡◌, ℕ, ◌+◌, ◌*◌, ◌^◌, ◌<◌, ◌≤◌, Bool, true, false, not, ◌||◌, eqb, List, [], ◌∷◌, ◌++◌, length, get_or, take, drop, Ok, Result, sym, refl, ap, ◌∙◌, subst, inl, arith, length-drop, take-append-drop, drop_of_length-le, take_all, drop-drop, ltb-true, eqb-true}
 use Prim.{tt}
-use Prim.Native.Nat.{ℕ, ◌+◌, ◌*◌, ◌^◌, ◌≤◌, ◌<◌}
-use mathlib.Core.Path.{◌≡◌, refl, sym, ap, ◌∙◌, subst}
-use mathlib.Core.Bool.{Bool, true, false, ◌||◌, not}
-use mathlib.Core.Logic.{inl}
-use mathlib.Core.List.{List, [], ◌∷◌, ◌++◌}
-use native.Mathlib.Omega.{arith}
-use borrow.Author.Tests.{ltb-true, eqb-true}
-use lib.Dec.{eqb}
-use lib.ListN.{length, take, drop, get_or, length-drop, take-append-drop, drop_of_length-le}
-use lib.Seq.{drop-drop, take_all}
 use Rattle.wire.specs.Choose.{choose}
 use Rattle.wire.specs.Sum.{byte_values}
 use Rattle.wire.proofs.Cases.{by_choice}
@@ -20,6 +11,7 @@ use Rattle.lucid.specs.Form.{default, persistent, cycle_address, floor_address, 
 use Rattle.lucid.specs.Frame.{opc_in, p1_in, p2_in, len_in, is_reset, saves, option_right, address_in, value_in, address_known, value_right, mask_of, len_for, place_of, asked}
 use Rattle.lucid.specs.Stages.{parameter_asked, command_asked, Sound}
 use Rattle.lucid.specs.declared.frame.Order.{Order}
+use Rattle.lucid.specs.declared.frame.Refusal.{Refusal}
 use Rattle.lucid.specs.declared.frame.Order.TheVariants.{GetIo as GetOrder, SetIo as SetOrder, GetParam as GetParamOrder, SetParam as SetParamOrder, Reset as ResetOrder}
 use Rattle.lucid.proofs.Frames.{asked_sound}
 use Rattle.lucid.proofs.Laws.{one_channel}
@@ -91,63 +83,63 @@ module _ (f : List ℕ) (bytes : Below byte_values f) where
 
   module _ (p1 p2 address : ℕ) (values : List ℕ) where
     -- GetIo and GetIoGroup
-    only_get : Parts GetIo p1 p2 address values → opc_in f ≡ get_io → asked f ≡ GetOrder p2 (2 ^ p1) → f ≡ made (asking GetIo p1 p2 address values)
+    only_get : Parts GetIo p1 p2 address values → opc_in f ≡ get_io → asked f ≡ Ok (GetOrder p2 (2 ^ p1)) → f ≡ made (asking GetIo p1 p2 address values)
     unfolding made opc_of data_of p1_right command_asked mask_of len_for choose
     only_get q c e =
         let p = passed f (subst Obeyed (sym e) tt) in
-        let o : GetOrder (p2_in f) (2 ^ p1_in f) ≡ GetOrder p2 (2 ^ p1) = rw c at (sym p.order ∙ e) in
+        let o : Ok (GetOrder (p2_in f) (2 ^ p1_in f)) ≡ Ok (GetOrder p2 (2 ^ p1)) = rw c at (sym p.order ∙ e) in
         let t : p2_in f ≡ p2 = cc in
         let m : 2 ^ p1_in f ≡ 2 ^ p1 = cc in
         let n : len_in f ≡ 0 = rw c at p.measured in
         let channel = exponent (p1_in f) p1 (ltb-true (p1_in f) channels (rw c at p.channel)) (ltb-true p1 channels q.first) m in
         framed_as get_io p1 p2 [] f p c channel t (no_data (omega (arith, p.sized)))
 
-    only_get_group : opc_in f ≡ get_io_group → asked f ≡ GetOrder p2 p1 → f ≡ made (asking GetIoGroup p1 p2 address values)
+    only_get_group : opc_in f ≡ get_io_group → asked f ≡ Ok (GetOrder p2 p1) → f ≡ made (asking GetIoGroup p1 p2 address values)
     unfolding made opc_of data_of command_asked mask_of len_for choose
     only_get_group c e =
         let p = passed f (subst Obeyed (sym e) tt) in
-        let o : GetOrder (p2_in f) (p1_in f) ≡ GetOrder p2 p1 = rw c at (sym p.order ∙ e) in
+        let o : Ok (GetOrder (p2_in f) (p1_in f)) ≡ Ok (GetOrder p2 p1) = rw c at (sym p.order ∙ e) in
         let t : p2_in f ≡ p2 = cc in
         let m : p1_in f ≡ p1 = cc in
         let n : len_in f ≡ 0 = rw c at p.measured in
         framed_as get_io_group p1 p2 [] f p c m t (no_data (omega (arith, p.sized)))
 
     -- the data of a frame that sets these demands
-    set_data : (mask : ℕ) → asked f ≡ SetOrder mask → demands_in (asked f) f ≡ values → drop data_at f ≡ demand_bytes values
+    set_data : (mask : ℕ) → asked f ≡ Ok (SetOrder mask) → demands_in (asked f) f ≡ values → drop data_at f ≡ demand_bytes values
     unfolding demands_in
     set_data mask e d =
         let read : demands_from (length (channels_of mask)) f data_at ≡ values = rw e at d in
         demands_bytes f bytes (length (channels_of mask)) data_at (subst (Sound f) e (asked_sound f)) ∙ ap demand_bytes read
 
     -- SetIo and SetIoGroup
-    only_set : Parts SetIo p1 p2 address values → opc_in f ≡ set_io → asked f ≡ SetOrder (2 ^ p1) → demands_in (asked f) f ≡ values → f ≡ made (asking SetIo p1 p2 address values)
+    only_set : Parts SetIo p1 p2 address values → opc_in f ≡ set_io → asked f ≡ Ok (SetOrder (2 ^ p1)) → demands_in (asked f) f ≡ values → f ≡ made (asking SetIo p1 p2 address values)
     unfolding made opc_of data_of p1_right p2_right command_asked mask_of choose
     only_set q c e d =
         let p = passed f (subst Obeyed (sym e) tt) in
-        let o : SetOrder (2 ^ p1_in f) ≡ SetOrder (2 ^ p1) = rw c at (sym p.order ∙ e) in
+        let o : Ok (SetOrder (2 ^ p1_in f)) ≡ Ok (SetOrder (2 ^ p1)) = rw c at (sym p.order ∙ e) in
         let m : 2 ^ p1_in f ≡ 2 ^ p1 = cc in
         let t : p2_in f ≡ p2 = eqb-true (p2_in f) demand (rw c at p.writable) ∙ sym (eqb-true p2 demand q.second) in
         let channel = exponent (p1_in f) p1 (ltb-true (p1_in f) channels (rw c at p.channel)) (ltb-true p1 channels q.first) m in
         framed_as set_io p1 p2 (demand_bytes values) f p c channel t (set_data (2 ^ p1) e d)
 
-    only_set_group : Parts SetIoGroup p1 p2 address values → opc_in f ≡ set_io_group → asked f ≡ SetOrder p1 → demands_in (asked f) f ≡ values → f ≡ made (asking SetIoGroup p1 p2 address values)
+    only_set_group : Parts SetIoGroup p1 p2 address values → opc_in f ≡ set_io_group → asked f ≡ Ok (SetOrder p1) → demands_in (asked f) f ≡ values → f ≡ made (asking SetIoGroup p1 p2 address values)
     unfolding made opc_of data_of p2_right command_asked mask_of choose
     only_set_group q c e d =
         let p = passed f (subst Obeyed (sym e) tt) in
-        let o : SetOrder (p1_in f) ≡ SetOrder p1 = rw c at (sym p.order ∙ e) in
+        let o : Ok (SetOrder (p1_in f)) ≡ Ok (SetOrder p1) = rw c at (sym p.order ∙ e) in
         let m : p1_in f ≡ p1 = cc in
         let t : p2_in f ≡ p2 = eqb-true (p2_in f) demand (rw c at p.writable) ∙ sym (eqb-true p2 demand q.second) in
         framed_as set_io_group p1 p2 (demand_bytes values) f p c m t (set_data p1 e d)
 
     -- a frame that asks for a parameter names it
-    get_param_named : (place : ℕ) → command_asked get_param (p1_in f) (p2_in f) f ≡ GetParamOrder place → (address_known (address_in f) ≡ true) × (place_of (p1_in f) (address_in f) ≡ place)
+    get_param_named : (place : ℕ) → command_asked get_param (p1_in f) (p2_in f) f ≡ Ok (GetParamOrder place) → (address_known (address_in f) ≡ true) × (place_of (p1_in f) (address_in f) ≡ place)
     unfolding command_asked parameter_asked choose
     get_param_named place =
-        by_choice (λ (o : Order). o ≡ GetParamOrder place → (address_known (address_in f) ≡ true) × (place_of (p1_in f) (address_in f) ≡ place)) (address_known (address_in f)) _ _
+        by_choice (λ (o : Result Order Refusal). o ≡ Ok (GetParamOrder place) → (address_known (address_in f) ≡ true) × (place_of (p1_in f) (address_in f) ≡ place)) (address_known (address_in f)) _ _
         (λ k e. (k, cc)) (λ _ e. apart (cc))
 
     -- GetParam
-    only_get_param : Parts GetParam p1 p2 address values → opc_in f ≡ get_param → asked f ≡ GetParamOrder (place_of p1 address) → f ≡ made (asking GetParam p1 p2 address values)
+    only_get_param : Parts GetParam p1 p2 address values → opc_in f ≡ get_param → asked f ≡ Ok (GetParamOrder (place_of p1 address)) → f ≡ made (asking GetParam p1 p2 address values)
     unfolding made opc_of data_of p2_right address_right len_for little choose
     only_get_param q c e =
         let p = passed f (subst Obeyed (sym e) tt) in
@@ -168,7 +160,7 @@ module _ (f : List ℕ) (bytes : Below byte_values f) where
       given : value_in f ≡ value
 
     -- its order says so
-    set_param_named : (place : ℕ) (saved : Bool) (value : ℕ) → command_asked set_param (p1_in f) (p2_in f) f ≡ SetParamOrder place saved value → SetsParam place saved value
+    set_param_named : (place : ℕ) (saved : Bool) (value : ℕ) → command_asked set_param (p1_in f) (p2_in f) f ≡ Ok (SetParamOrder place saved value) → SetsParam place saved value
     unfolding command_asked parameter_asked choose
     set_param_named place saved value =
         by_choice P (address_known (address_in f)) _ _
@@ -176,11 +168,11 @@ module _ (f : List ℕ) (bytes : Below byte_values f) where
         (λ s. by_choice P (value_right (place_of (p1_in f) (address_in f)) (value_in f)) _ _ (λ _ e. record { stays = s; known = k; named = cc; kept = cc; given = cc }) (λ _ e. apart (cc))))
         (λ _ e. apart (cc))
       where
-        P : Order → Type 0
-        P o = o ≡ SetParamOrder place saved value → SetsParam place saved value
+        P : Result Order Refusal → Type 0
+        P o = o ≡ Ok (SetParamOrder place saved value) → SetsParam place saved value
 
     -- SetParam
-    only_set_param : Parts SetParam p1 p2 address values → opc_in f ≡ set_param → asked f ≡ SetParamOrder (place_of p1 address) (eqb p2 persistent) (get_or values 0 0)
+    only_set_param : Parts SetParam p1 p2 address values → opc_in f ≡ set_param → asked f ≡ Ok (SetParamOrder (place_of p1 address) (eqb p2 persistent) (get_or values 0 0))
         → f ≡ made (asking SetParam p1 p2 address values)
     unfolding made opc_of data_of p2_right address_right len_for option_of choose
     only_set_param q c e =
@@ -205,7 +197,7 @@ module _ (f : List ℕ) (bytes : Below byte_values f) where
       kept : saves (p2_in f) ≡ saved
 
     -- its order says so
-    reset_named : (place : ℕ) (saved : Bool) → command_asked set_param (p1_in f) (p2_in f) f ≡ ResetOrder place saved → Resets place saved
+    reset_named : (place : ℕ) (saved : Bool) → command_asked set_param (p1_in f) (p2_in f) f ≡ Ok (ResetOrder place saved) → Resets place saved
     unfolding command_asked parameter_asked choose
     reset_named place saved =
         by_choice P (address_known (address_in f)) _ _
@@ -213,11 +205,11 @@ module _ (f : List ℕ) (bytes : Below byte_values f) where
         (λ _. by_choice P (value_right (place_of (p1_in f) (address_in f)) (value_in f)) _ _ (λ _ e. apart (cc)) (λ _ e. apart (cc))))
         (λ _ e. apart (cc))
       where
-        P : Order → Type 0
-        P o = o ≡ ResetOrder place saved → Resets place saved
+        P : Result Order Refusal → Type 0
+        P o = o ≡ Ok (ResetOrder place saved) → Resets place saved
 
     -- Reset
-    only_reset : Parts Reset p1 p2 address values → opc_in f ≡ set_param → asked f ≡ ResetOrder (place_of p1 address) (eqb p2 (default + persistent))
+    only_reset : Parts Reset p1 p2 address values → opc_in f ≡ set_param → asked f ≡ Ok (ResetOrder (place_of p1 address) (eqb p2 (default + persistent)))
         → f ≡ made (asking Reset p1 p2 address values)
     unfolding made opc_of data_of p2_right address_right len_for little option_of choose
     only_reset q c e =

@@ -1,12 +1,5 @@
 -- LucidControl: a made frame asks the card what was asked. Assumes nothing.
-use Prim.Native.Nat.{ℕ, ◌+◌, ◌*◌, ◌^◌, ◌<◌}
-use mathlib.Core.Path.{◌≡◌, refl, sym, ap, ◌∙◌}
-use mathlib.Core.Bool.{true, false}
-use mathlib.Core.List.{List, [], ◌∷◌, ◌++◌}
-use native.Mathlib.Omega.{arith}
-use borrow.Author.Tests.{ltb-true}
-use lib.Dec.{ltb, eqb}
-use lib.ListN.{length, get_or}
+use Rattle.std.proofs.Common.{◌≡◌, ℕ, ◌+◌, ◌*◌, ◌^◌, ◌<◌, true, false, eqb, ltb, List, [], ◌∷◌, ◌++◌, length, get_or, Ok, Result, sym, refl, ap, ◌∙◌, arith, ltb-true}
 use Rattle.wire.specs.Choose.{choose}
 use Rattle.wire.specs.Word.{word_values}
 use Rattle.wire.specs.Sum.{byte_values}
@@ -16,6 +9,7 @@ use Rattle.lucid.specs.Form.{default, persistent, cycle_address, floor_address, 
 use Rattle.lucid.specs.Frame.{is_reset, saves, option_right, address_known, address_in, value_in, value_right, mask_of, len_for, place_of, asked, opc_in}
 use Rattle.lucid.specs.Stages.{parameter_asked, command_asked}
 use Rattle.lucid.specs.declared.frame.Order.{Order}
+use Rattle.lucid.specs.declared.frame.Refusal.{Refusal}
 use Rattle.lucid.specs.declared.frame.Order.TheVariants.{GetIo as GetOrder, SetIo as SetOrder, GetParam as GetParamOrder, SetParam as SetParamOrder, Reset as ResetOrder}
 use Rattle.lucid.proofs.Laws.{one_channel}
 use Rattle.lucid.proofs.Numbers.{number_little}
@@ -38,7 +32,7 @@ pub by_address : (P : ℕ → Type 0) → P cycle_address → P floor_address �
 by_address P a b x h = by_two P cycle_address floor_address a b x h
 
 -- what a frame asks, by its order
-asked_as : (f : List ℕ) (order : Order) → asked f ≡ order → asked_in f ≡ record { opc = opc_in f; order = order; demands = demands_in order f }
+asked_as : (f : List ℕ) (order : Result Order Refusal) → asked f ≡ order → asked_in f ≡ record { opc = opc_in f; order = order; demands = demands_in order f }
 unfolding asked_in
 asked_as f order e = rw e
 
@@ -56,21 +50,21 @@ module _ (p1 p2 address : ℕ) (values : List ℕ) where
   -- command by command
   means_get : Parts GetIo p1 p2 address values → asked_in (made (asking GetIo p1 p2 address values)) ≡ asked_of (asking GetIo p1 p2 address values)
   unfolding made opc_of data_of asked_of order_of demands_of demands_in p1_right p2_right command_asked mask_of len_for choose
-  means_get p = asked_as _ (GetOrder p2 (2 ^ p1)) (asked_framed get_io p1 p2 [] (omega arith) refl p.first refl p.second refl refl refl)
+  means_get p = asked_as _ (Ok (GetOrder p2 (2 ^ p1))) (asked_framed get_io p1 p2 [] (omega arith) refl p.first refl p.second refl refl refl)
 
   means_get_group : Parts GetIoGroup p1 p2 address values → asked_in (made (asking GetIoGroup p1 p2 address values)) ≡ asked_of (asking GetIoGroup p1 p2 address values)
   unfolding made opc_of data_of asked_of order_of demands_of demands_in p1_right p2_right command_asked mask_of len_for choose
-  means_get_group p = asked_as _ (GetOrder p2 p1) (asked_framed get_io_group p1 p2 [] (omega arith) refl refl p.first p.second refl refl refl)
+  means_get_group p = asked_as _ (Ok (GetOrder p2 p1)) (asked_framed get_io_group p1 p2 [] (omega arith) refl refl p.first p.second refl refl refl)
 
   -- a frame that sets demands, of which the order names as many channels
   set_asked : (opc mask : ℕ) → length (channels_of mask) ≡ length values → all_demands values ≡ true
-      → asked (opc ∷ p1 ∷ p2 ∷ length (demand_bytes values) ∷ demand_bytes values) ≡ SetOrder mask
-      → asked_in (opc ∷ p1 ∷ p2 ∷ length (demand_bytes values) ∷ demand_bytes values) ≡ record { opc = opc; order = SetOrder mask; demands = values }
+      → asked (opc ∷ p1 ∷ p2 ∷ length (demand_bytes values) ∷ demand_bytes values) ≡ Ok (SetOrder mask)
+      → asked_in (opc ∷ p1 ∷ p2 ∷ length (demand_bytes values) ∷ demand_bytes values) ≡ record { opc = opc; order = Ok (SetOrder mask); demands = values }
   unfolding demands_in
   set_asked opc mask n all e =
       let f = opc ∷ p1 ∷ p2 ∷ length (demand_bytes values) ∷ demand_bytes values in
       let read : demands_from (length (channels_of mask)) f data_at ≡ values = rw n (demands_read values (opc ∷ p1 ∷ p2 ∷ length (demand_bytes values) ∷ []) all) in
-      asked_as f (SetOrder mask) e ∙ ap (λ (ds : List ℕ). record { opc = opc; order = SetOrder mask; demands = ds }) read
+      asked_as f (Ok (SetOrder mask)) e ∙ ap (λ (ds : List ℕ). record { opc = opc; order = Ok (SetOrder mask); demands = ds }) read
 
   means_set : Parts SetIo p1 p2 address values → asked_in (made (asking SetIo p1 p2 address values)) ≡ asked_of (asking SetIo p1 p2 address values)
   unfolding made opc_of data_of asked_of order_of demands_of p1_right p2_right count_of values_right command_asked mask_of len_for size_of choose
@@ -93,7 +87,7 @@ module _ (p1 p2 address : ℕ) (values : List ℕ) where
   unfolding made opc_of data_of asked_of order_of demands_of demands_in p1_right p2_right address_right command_asked parameter_asked mask_of len_for little choose
   means_get_param p =
       let read = address_read get_param p1 p2 address_size address [] p.known in
-      asked_as _ (GetParamOrder (place_of p1 address))
+      asked_as _ (Ok (GetParamOrder (place_of p1 address)))
       (asked_framed get_param p1 p2 (little address_size address) (omega arith) refl p.first refl refl refl (rw p.second) refl ∙ rw (read, p.known))
 
 -- a frame that sets a parameter, with an option that resets nothing
@@ -107,7 +101,7 @@ module _ (p1 option address : ℕ) (values : List ℕ) where
       let bytes = little address_size address ++ little parameter_size value in
       let named = address_read set_param p1 option (length bytes) address (little parameter_size value) known in
       let given = value_read set_param p1 option (length bytes) address value word in
-      asked_as _ (SetParamOrder (place_of p1 address) (eqb option persistent) value)
+      asked_as _ (Ok (SetParamOrder (place_of p1 address) (eqb option persistent) value))
       (asked_framed set_param p1 option bytes (omega arith) refl channel refl refl refl right (rw stays) ∙ rw (stays, named, known, given, inside, saved))
 
   -- and one that resets it
@@ -116,7 +110,7 @@ module _ (p1 option address : ℕ) (values : List ℕ) where
   unfolding made opc_of data_of asked_of order_of demands_of demands_in command_asked parameter_asked len_for little choose
   reset_asked resets right saved channel known =
       let named = address_read set_param p1 option address_size address [] known in
-      asked_as _ (ResetOrder (place_of p1 address) (eqb option (default + persistent)))
+      asked_as _ (Ok (ResetOrder (place_of p1 address) (eqb option (default + persistent))))
       (asked_framed set_param p1 option (little address_size address) (omega arith) refl channel refl refl refl right (rw resets) ∙ rw (named, known, resets, saved))
 
 -- a made frame, whatever its command

@@ -1,12 +1,6 @@
 -- LucidControl's refusals: what any card refuses with is heard as that, and each status and the fault are some card's. Assumes nothing.
+use Rattle.std.proofs.Common.{◌≡◌, ℕ, ◌+◌, ◌<◌, ◌≤◌, Bool, true, List, [], ◌∷◌, ◌++◌, length, Ok, Err, Result, sym, refl, ap, ◌∙◌, subst, arith, eqb-true}
 use Prim.{Unit, tt}
-use Prim.Native.Nat.{ℕ, ◌+◌, ◌≤◌, ◌<◌}
-use mathlib.Core.Path.{◌≡◌, refl, sym, ap, ◌∙◌, subst}
-use mathlib.Core.Bool.{Bool, true}
-use mathlib.Core.List.{List, [], ◌∷◌, ◌++◌}
-use native.Mathlib.Omega.{arith}
-use borrow.Author.Tests.{eqb-true}
-use lib.ListN.{length}
 use Rattle.wire.specs.Choose.{choose}
 use Rattle.wire.specs.Buffer.{same}
 use Rattle.wire.specs.Sum.{byte_values}
@@ -22,7 +16,9 @@ use Rattle.lucid.specs.Form.{get_io, get_io_group, set_param, get_param, demand,
 use Rattle.lucid.specs.Frame.{asked}
 use Rattle.lucid.specs.Answer.{Values, Held, Failed, group, value_of, read, obeyed}
 use Rattle.lucid.specs.declared.frame.Order.{Order}
-use Rattle.lucid.specs.declared.frame.Order.TheVariants.{Silent, Refused as RefusedOrder, GetIo as GetOrder, SetIo as SetOrder}
+use Rattle.lucid.specs.declared.frame.Refusal.{Refusal}
+use Rattle.lucid.specs.declared.frame.Order.TheVariants.{GetIo as GetOrder, SetIo as SetOrder}
+use Rattle.lucid.specs.declared.frame.Refusal.TheVariants.{Silent, Refused as RefusedOrder}
 use Rattle.lucid.specs.declared.frame.Order.TheVariants.{GetParam as GetParamOrder, SetParam as SetParamOrder, Reset as ResetOrder}
 use Rattle.lucid.proofs.Computed as lucid
 use Rattle.lucid.proofs.Laws.{replied}
@@ -49,20 +45,16 @@ by_status P a b c d e f g i s h =
     (λ h₇. subst P (sym (eqb-true s inv_data h₇)) i)))))))
 
 -- an order refuses with one of these
-abbrev Known : Order → Type 0
-Known (Silent number) = Unit {0}
-Known (RefusedOrder number status) = is_status status ≡ true
-Known (GetOrder valueType mask) = Unit {0}
-Known (SetOrder mask) = Unit {0}
-Known (GetParamOrder place) = Unit {0}
-Known (SetParamOrder place saved value) = Unit {0}
-Known (ResetOrder place saved) = Unit {0}
+abbrev Known : Result Order Refusal → Type 0
+Known (Err (Silent number)) = Unit {0}
+Known (Err (RefusedOrder number status)) = is_status status ≡ true
+Known (Ok order) = Unit {0}
 
 -- a test, of which the other way is such a refusal; and one of which both ways are none or such
-or_known : (t : Bool) (order : Order) (number status : ℕ) → is_status status ≡ true → Known order → Known (choose t order (RefusedOrder number status))
-or_known t order number status h k = by_choice Known t order (RefusedOrder number status) (λ _. k) (λ _. h)
+or_known : (t : Bool) (order : Result Order Refusal) (number status : ℕ) → is_status status ≡ true → Known order → Known (choose t order (Err (RefusedOrder number status)))
+or_known t order number status h k = by_choice Known t order (Err (RefusedOrder number status)) (λ _. k) (λ _. h)
 
-either : (t : Bool) (a b : Order) → Known a → Known b → Known (choose t a b)
+either : (t : Bool) (a b : Result Order Refusal) → Known a → Known b → Known (choose t a b)
 either t a b k l = by_choice Known t a b (λ _. k) (λ _. l)
 
 -- every order does
@@ -85,17 +77,17 @@ read_heard q (Held bytes) h = let z : ⊥ = omega arith in absurd z
 read_heard q Failed h = (refl, refl)
 
 -- and for every order
-order_heard : (q : Asking) (ws memory f : List ℕ) (order : Order) → Known order → foreign_address ≤ (obeyed ws memory f order).number → 0 < length (obeyed ws memory f order).bytes
+order_heard : (q : Asking) (ws memory f : List ℕ) (order : Result Order Refusal) → Known order → foreign_address ≤ (obeyed ws memory f order).number → 0 < length (obeyed ws memory f order).bytes
     → HeardSo q (obeyed ws memory f order).bytes
 unfolding obeyed heard same is_status refusal_in choose
-order_heard q ws memory f (Silent number) k h some = let z : ⊥ = omega arith in absurd z
-order_heard q ws memory f (RefusedOrder number status) k h some =
+order_heard q ws memory f (Err (Silent number)) k h some = let z : ⊥ = omega arith in absurd z
+order_heard q ws memory f (Err (RefusedOrder number status)) k h some =
     by_status (λ s. HeardSo q (s ∷ 0 ∷ [])) (refl, refl) (refl, refl) (refl, refl) (refl, refl) (refl, refl) (refl, refl) (refl, refl) (refl, refl) status k
-order_heard q ws memory f (GetOrder valueType mask) k h some = read_heard q (group (value_of ws memory valueType) (channels_of mask)) h
-order_heard q ws memory f (SetOrder mask) k h some = let z : ⊥ = omega arith in absurd z
-order_heard q ws memory f (GetParamOrder place) k h some = let z : ⊥ = omega arith in absurd z
-order_heard q ws memory f (SetParamOrder place saved value) k h some = let z : ⊥ = omega arith in absurd z
-order_heard q ws memory f (ResetOrder place saved) k h some = let z : ⊥ = omega arith in absurd z
+order_heard q ws memory f (Ok (GetOrder valueType mask)) k h some = read_heard q (group (value_of ws memory valueType) (channels_of mask)) h
+order_heard q ws memory f (Ok (SetOrder mask)) k h some = let z : ⊥ = omega arith in absurd z
+order_heard q ws memory f (Ok (GetParamOrder place)) k h some = let z : ⊥ = omega arith in absurd z
+order_heard q ws memory f (Ok (SetParamOrder place saved value)) k h some = let z : ⊥ = omega arith in absurd z
+order_heard q ws memory f (Ok (ResetOrder place saved)) k h some = let z : ⊥ = omega arith in absurd z
 
 -- a refusal that document 01 has is heard
 pub refusal_said : (q : Asking) (h : Hearing) (r : List ℕ) → Refuses lucid_master q h r → (is_said h ≡ true) × (heard q r ≡ h)

@@ -1,13 +1,6 @@
 -- The claims say something: for each of them, and each part of one, a wrong master that breaks it; the card is right. Assumes nothing.
+use Rattle.std.proofs.Common.{◌≡◌, ℕ, ◌+◌, ◌/◌, ◌%◌, ◌^◌, true, false, eqb, List, [], ◌∷◌, ◌++◌, reverse, length, get_or, Ok, Err, refl, ap, inl, inr, ⊎_elim, arith, lit<, lit≤}
 use Prim.{tt}
-use Prim.Native.Nat.{ℕ, ◌+◌, ◌/◌, ◌%◌, ◌^◌}
-use mathlib.Core.Path.{◌≡◌, refl, ap}
-use mathlib.Core.Bool.{true, false}
-use mathlib.Core.Logic.{inl, inr, ⊎_elim}
-use mathlib.Core.List.{List, [], ◌∷◌, ◌++◌, reverse}
-use native.Mathlib.Omega.{arith}
-use lib.Dec.{eqb, lit≤, lit<}
-use lib.ListN.{length, get_or}
 use Rattle.wire.specs.Choose.{choose}
 use Rattle.wire.specs.Buffer.{same}
 use Rattle.wire.specs.Word.{word_values}
@@ -22,11 +15,13 @@ use Rattle.card.specs.Start.{start_card}
 use Rattle.lecom.specs.Form.{stx, etx, eot, enq, nak, extended_mark}
 use Rattle.lecom.specs.Frame.{bcc_of}
 use Rattle.lecom.specs.declared.form.Named.TheVariants.{Register}
-use Rattle.lecom.specs.declared.frame.Order.TheVariants.{Silent as LecomSilent, Read as LecomOrder}
+use Rattle.lecom.specs.declared.frame.Order.TheVariants.{Read as LecomOrder}
+use Rattle.lecom.specs.declared.frame.Refusal.TheVariants.{Silent as LecomSilent}
 use Rattle.love.specs.Form.{stx as loveStx, etx as loveEtx, filter_of, write_command, minus_sign}
 use Rattle.love.specs.Frame.{byte_at}
 use Rattle.love.specs.Answer.{figure_count, value_data}
-use Rattle.love.specs.declared.frame.Order.TheVariants.{Silent as LoveSilent, Probe}
+use Rattle.love.specs.declared.frame.Order.TheVariants.{Probe}
+use Rattle.love.specs.declared.frame.Refusal.TheVariants.{Silent as LoveSilent}
 use Rattle.lucid.specs.Form.{get_io}
 use Rattle.asking.specs.Hearing.{Hearing, is_said, number_of}
 use Rattle.asking.specs.Hearing.Hearing.{Gives, Done, Fault, Refused, Unread}
@@ -92,7 +87,7 @@ refute_lecom_next_address : AllMean (making lecom_master (λ q. lecomMade (recor
 unfolding lecom_computed
 refute_lecom_next_address m =
     let q = to_lecom (LecomRead 0) in
-    let z : LecomSilent 2 ≡ LecomOrder (Register 0) = (m q (askable_by _ q refl refl)).means 11 in
+    let z : Err (LecomSilent 2) ≡ Ok (LecomOrder (Register 0)) = (m q (askable_by _ q refl refl)).means 11 in
     let y : ◌≡◌ {A = ℕ} 0 1 = cc in
     omega (arith, y)
 
@@ -101,7 +96,7 @@ refute_love_next_address : AllMean (making love_master (λ q. loveMade (record {
 unfolding love_computed
 refute_love_next_address m =
     let q = to_love Status in
-    let z : LoveSilent 2 ≡ Probe = (m q (askable_by _ q refl refl)).means 0x32 in
+    let z : Err (LoveSilent 2) ≡ Ok Probe = (m q (askable_by _ q refl refl)).means 0x32 in
     let y : ◌≡◌ {A = ℕ} 0 1 = cc in
     omega (arith, y)
 

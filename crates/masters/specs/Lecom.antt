@@ -1,5 +1,5 @@
 -- LECOM's master and card, as a dialect of crates/asking/specs/Claims.antt. Document 02, M-102, with document 01, "LECOM".
-use Rattle.std.specs.Prelude.{ℕ, ◌+◌, ◌/◌, ◌%◌, Bool, ◌||◌, List, [], ◌∷◌, eqb, get_or}
+use Rattle.std.specs.Prelude.{ℕ, ◌+◌, ◌/◌, ◌%◌, Bool, ◌||◌, List, [], ◌∷◌, eqb, get_or, Option, Some, None, Result, Err}
 use Rattle.wire.specs.Choose.{choose}
 use Rattle.figures.specs.Figure.{decimal}
 use Rattle.card.specs.Numbers.{foreign_address}
@@ -9,12 +9,14 @@ use Rattle.card.specs.Probe.{reading_of}
 use Rattle.card.specs.declared.probe.Reading.{Reading}
 use Rattle.card.specs.declared.probe.Reading.TheVariants.{Temperature, Fault}
 use Rattle.lecom.specs.Form.{named_by}
-use Rattle.lecom.specs.Frame.{asked}
+use Rattle.lecom.specs.Frame.{ordering, asked}
 use Rattle.lecom.specs.Answer.{address_of, lecom_reply}
 use Rattle.lecom.specs.declared.form.Named.{Named}
-use Rattle.lecom.specs.declared.form.Named.TheVariants.{Register, Probe, Activate, Store, Nothing}
+use Rattle.lecom.specs.declared.form.Named.TheVariants.{Register, Probe, Activate, Store}
 use Rattle.lecom.specs.declared.frame.Order.{Order}
-use Rattle.lecom.specs.declared.frame.Order.TheVariants.{Silent, Read as ReadOrder, Write as WriteOrder}
+use Rattle.lecom.specs.declared.frame.Refusal.{Refusal}
+use Rattle.lecom.specs.declared.frame.Order.TheVariants.{Read as ReadOrder, Write as WriteOrder}
+use Rattle.lecom.specs.declared.frame.Refusal.TheVariants.{Silent}
 use Rattle.asking.specs.Hearing.{Hearing}
 use Rattle.asking.specs.Hearing.Hearing.{Gives, Done, Refused}
 use Rattle.asking.specs.Claims.{Dialect}
@@ -30,9 +32,9 @@ numbers_in (Read code) = code ∷ []
 numbers_in (Write code value) = code ∷ value ∷ []
 
 -- what a task is to ask of a unit that it reaches: a code by what it names
-unfoldable pub order_of : Task → Order
-order_of (Read code) = ReadOrder (named_by code)
-order_of (Write code value) = WriteOrder (named_by code) value
+unfoldable pub order_of : Task → Result Order Refusal
+order_of (Read code) = ordering ReadOrder (named_by code)
+order_of (Write code value) = ordering (λ (named : Named). WriteOrder named value) (named_by code)
 
 -- "Address 00, or the unit's tens figure followed by 0, reaches the unit", and so does its own
 unfoldable pub addresses : ℕ → ℕ → Bool
@@ -40,8 +42,8 @@ addresses address unit =
     choose (eqb (address % decimal) 0) (eqb (address / decimal) 0 || eqb (address / decimal) (unit / decimal)) (eqb address unit)
 
 -- what a request is to ask of the unit at an address
-unfoldable pub asked_of : Request → ℕ → Order
-asked_of q unit = choose (addresses q.address unit) (order_of q.task) (Silent foreign_address)
+unfoldable pub asked_of : Request → ℕ → Result Order Refusal
+asked_of q unit = choose (addresses q.address unit) (order_of q.task) (Err (Silent foreign_address))
 
 -- what a probe's reading is told as: "LECOM's NAK says only refused"
 unfoldable pub heard_reading : Reading → Hearing
@@ -49,12 +51,12 @@ heard_reading (Temperature tenths) = Gives (tenths.0 ∷ [])
 heard_reading Fault = Refused []
 
 -- what a card holds, of what is named: a register's operational copy, a probe's reading; ACTIVATE and STORE "read 0"
-unfoldable pub held_by : Card → Named → Hearing
-held_by card (Register k) = Gives (get_or card.words (operational_at + k) 0 ∷ [])
-held_by card (Probe channel) = heard_reading (reading_of (get_or card.memory channel 0))
-held_by card Activate = Gives (0 ∷ [])
-held_by card Store = Gives (0 ∷ [])
-held_by card Nothing = Refused []
+unfoldable pub held_by : Card → Option Named → Hearing
+held_by card (Some (Register k)) = Gives (get_or card.words (operational_at + k) 0 ∷ [])
+held_by card (Some (Probe channel)) = heard_reading (reading_of (get_or card.memory channel 0))
+held_by card (Some Activate) = Gives (0 ∷ [])
+held_by card (Some Store) = Gives (0 ∷ [])
+held_by card None = Refused []
 
 -- what a card answers to a task
 unfoldable pub answer_to : Card → Task → Hearing
@@ -74,7 +76,7 @@ lecom_master =
       address = λ q. q.address;
       askable = askable;
       made = made;
-      Asked = Order;
+      Asked = Result Order Refusal;
       is_unit = lecom_right;
       asked = asked;
       asked_of = asked_of;

@@ -1,5 +1,5 @@
 -- Love, as its master and its card have it: the dialect of which the four claims are made. Document 02, M-102.
-use Rattle.std.specs.Prelude.{ℕ, ◌+◌, List, [], ◌∷◌, eqb, get_or}
+use Rattle.std.specs.Prelude.{ℕ, ◌+◌, List, [], ◌∷◌, eqb, get_or, Result, Ok, Err}
 use Rattle.wire.specs.Choose.{choose}
 use Rattle.figures.specs.Figure.{upper_hex}
 use Rattle.card.specs.Numbers.{foreign_address}
@@ -12,7 +12,9 @@ use Rattle.card.specs.declared.probe.Reading.TheVariants.{Temperature, Fault as 
 use Rattle.love.specs.Frame.{byte_at, asked}
 use Rattle.love.specs.Answer.{address_of, love_reply}
 use Rattle.love.specs.declared.frame.Order.{Order}
-use Rattle.love.specs.declared.frame.Order.TheVariants.{Silent, Probe, Read as ReadOrder, Write as WriteOrder}
+use Rattle.love.specs.declared.frame.Refusal.{Refusal}
+use Rattle.love.specs.declared.frame.Order.TheVariants.{Probe, Read as ReadOrder, Write as WriteOrder}
+use Rattle.love.specs.declared.frame.Refusal.TheVariants.{Silent}
 use Rattle.asking.specs.Hearing.{Hearing}
 use Rattle.asking.specs.Hearing.Hearing.{Gives, Done, Fault, Refused}
 use Rattle.asking.specs.Claims.{Dialect}
@@ -29,14 +31,14 @@ numbers_in (Read place) = place ∷ []
 numbers_in (Write place value) = place ∷ value ∷ []
 
 -- what a task is to the unit that it reaches: the command and its values
-abbrev pub order_of : Task → Order
-order_of Status = Probe
-order_of (Read place) = ReadOrder place
-order_of (Write place value) = WriteOrder place value
+abbrev pub order_of : Task → Result Order Refusal
+order_of Status = Ok Probe
+order_of (Read place) = Ok (ReadOrder place)
+order_of (Write place value) = Ok (WriteOrder place value)
 
 -- what a request is to ask of a unit: every other unit takes it as a foreign one
-unfoldable pub asked_of : Request → ℕ → Order
-asked_of q unit = choose (eqb q.address unit) (order_of q.task) (Silent foreign_address)
+unfoldable pub asked_of : Request → ℕ → Result Order Refusal
+asked_of q unit = choose (eqb q.address unit) (order_of q.task) (Err (Silent foreign_address))
 
 -- what a probe's reading is heard as
 abbrev pub heard_reading : Reading → Hearing
@@ -61,7 +63,7 @@ love_master =
       address = λ q. q.address;
       askable = askable;
       made = made;
-      Asked = Order;
+      Asked = Result Order Refusal;
       is_unit = love_right;
       asked = asked;
       asked_of = asked_of;

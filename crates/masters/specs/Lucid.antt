@@ -1,5 +1,5 @@
 -- LucidControl's master and card, as a dialect (Rattle.asking.specs.Claims). It has no addresses and no check characters.
-use Rattle.std.specs.Prelude.{ℕ, zero, suc, ◌+◌, ◌^◌, true, List, [], ◌∷◌, eqb, length, get_or}
+use Rattle.std.specs.Prelude.{ℕ, zero, suc, ◌+◌, ◌^◌, true, List, [], ◌∷◌, eqb, length, get_or, Result, Ok, Err}
 use Rattle.wire.specs.Choose.{choose}
 use Rattle.card.specs.Layout.{Card, demands_at, parameters_at}
 use Rattle.card.specs.Probe.{reading_of}
@@ -10,7 +10,8 @@ use Rattle.lucid.specs.Form.{data_at, channels_of, demand, tenths, demand_size, 
 use Rattle.lucid.specs.Frame.{opc_in, place_of, asked}
 use Rattle.lucid.specs.Answer.{Values, Held, Failed, group, hundredths_of, lucid_reply}
 use Rattle.lucid.specs.declared.frame.Order.{Order}
-use Rattle.lucid.specs.declared.frame.Order.TheVariants.{Silent, Refused as RefusedOrder, GetIo as GetOrder, SetIo as SetOrder}
+use Rattle.lucid.specs.declared.frame.Refusal.{Refusal}
+use Rattle.lucid.specs.declared.frame.Order.TheVariants.{GetIo as GetOrder, SetIo as SetOrder}
 use Rattle.lucid.specs.declared.frame.Order.TheVariants.{GetParam as GetParamOrder, SetParam as SetParamOrder, Reset as ResetOrder}
 use Rattle.asking.specs.Hearing.{Hearing}
 use Rattle.asking.specs.Hearing.Hearing.{Gives, Done, Fault, Refused}
@@ -23,7 +24,7 @@ use Rattle.lucid_master.specs.declared.request.Command.TheVariants.{GetIo, GetIo
 -- what a frame asks: the command that it names, the order and, since that of SetIo has its mask alone, the demands that it sets
 pub record Asked : Type 0 where
   pub opc : ℕ
-  pub order : Order
+  pub order : Result Order Refusal
   pub demands : List ℕ
 
 -- n demands, from an index of a frame on
@@ -32,28 +33,27 @@ demands_from zero f at = []
 demands_from (suc n) f at = number_at demand_size f at ∷ demands_from n f (at + demand_size)
 
 -- the demands that a frame with this order sets
-unfoldable pub demands_in : Order → List ℕ → List ℕ
-demands_in (Silent number) f = []
-demands_in (RefusedOrder number status) f = []
-demands_in (GetOrder valueType mask) f = []
-demands_in (SetOrder mask) f = demands_from (length (channels_of mask)) f data_at
-demands_in (GetParamOrder place) f = []
-demands_in (SetParamOrder place saved value) f = []
-demands_in (ResetOrder place saved) f = []
+unfoldable pub demands_in : Result Order Refusal → List ℕ → List ℕ
+demands_in (Err refusal) f = []
+demands_in (Ok (GetOrder valueType mask)) f = []
+demands_in (Ok (SetOrder mask)) f = demands_from (length (channels_of mask)) f data_at
+demands_in (Ok (GetParamOrder place)) f = []
+demands_in (Ok (SetParamOrder place saved value)) f = []
+demands_in (Ok (ResetOrder place saved)) f = []
 
 -- what a frame asks
 unfoldable pub asked_in : List ℕ → Asked
 asked_in f = record { opc = opc_in f; order = asked f; demands = demands_in (asked f) f }
 
 -- the order that a command with this P1, P2, address and values is to be
-unfoldable pub order_of : Command → ℕ → ℕ → ℕ → List ℕ → Order
-order_of GetIo p1 p2 address values = GetOrder p2 (2 ^ p1)
-order_of GetIoGroup p1 p2 address values = GetOrder p2 p1
-order_of SetIo p1 p2 address values = SetOrder (2 ^ p1)
-order_of SetIoGroup p1 p2 address values = SetOrder p1
-order_of GetParam p1 p2 address values = GetParamOrder (place_of p1 address)
-order_of SetParam p1 p2 address values = SetParamOrder (place_of p1 address) (eqb p2 persistent) (get_or values 0 0)
-order_of Reset p1 p2 address values = ResetOrder (place_of p1 address) (eqb p2 (default + persistent))
+unfoldable pub order_of : Command → ℕ → ℕ → ℕ → List ℕ → Result Order Refusal
+order_of GetIo p1 p2 address values = Ok (GetOrder p2 (2 ^ p1))
+order_of GetIoGroup p1 p2 address values = Ok (GetOrder p2 p1)
+order_of SetIo p1 p2 address values = Ok (SetOrder (2 ^ p1))
+order_of SetIoGroup p1 p2 address values = Ok (SetOrder p1)
+order_of GetParam p1 p2 address values = Ok (GetParamOrder (place_of p1 address))
+order_of SetParam p1 p2 address values = Ok (SetParamOrder (place_of p1 address) (eqb p2 persistent) (get_or values 0 0))
+order_of Reset p1 p2 address values = Ok (ResetOrder (place_of p1 address) (eqb p2 (default + persistent)))
 
 -- the demands that it is to set
 unfoldable pub demands_of : Command → List ℕ → List ℕ

@@ -1,9 +1,5 @@
 -- A fit card stays fit. Assumes nothing.
-use mathlib.Core.Path.{◌≡◌, ap, ◌∙◌}
-use mathlib.Core.Bool.{true}
-use mathlib.Core.List.{List}
-use Prim.Native.Nat.{ℕ}
-use lib.ListN.{length}
+use Rattle.std.proofs.Common.{◌≡◌, ap, ◌∙◌, true, List, ℕ, length}
 use Rattle.card.specs.Layout.{Card}
 use Rattle.card.specs.Fitness.{fit, fit_words}
 use Rattle.card.proofs.Facts.{fit_from, fit_facts}

@@ -1,13 +1,6 @@
 -- A call of a receiver byte by byte: what one byte leaves in the row, and what the bytes so far have left. Assumes nothing.
-use mathlib.Core.Path.{◌≡◌, refl, sym, ap, ◌∙◌, subst}
-use mathlib.Core.Bool.{true}
-use mathlib.Core.List.{List, [], ◌∷◌, ◌++◌}
-use Prim.Native.Nat.{ℕ, zero, suc, ◌+◌, ◌-◌, ◌≤◌, ◌<◌}
-use native.Mathlib.Nat.{zero-add}
-use native.Mathlib.Numerals.{add-one}
-use native.Mathlib.Omega.{arith}
-use lib.ListN.{length, get_or, take, drop, set, length-append, length-set, length-drop, drop_of_length-le, take-append-drop}
-use lib.Seq.{drop-cons, drop-drop, append_snoc, length-take-le, sets}
+use Rattle.std.proofs.Common.{◌≡◌, refl, sym, ap, ◌∙◌, subst, true, List, [], ◌∷◌, ◌++◌, ℕ, zero, suc, ◌+◌, ◌-◌, ◌≤◌, ◌<◌, zero-add, add-one, arith, length, get_or, take, drop, set, length-append, length-set, length-drop, drop_of_length-le, take-append-drop, drop-cons, drop-drop, length-take-le}
+use lib.Seq.{append_snoc, sets}
 use Rattle.wire.specs.Buffer.{put, overlay, part}
 use Rattle.wire.proofs.Buffers.{overlay_none, overlay_set, put_sets, part_rest}
 use Rattle.receiver.specs.Place.{Sure}
@@ -20,7 +13,8 @@ use Rattle.receive.specs.Parts.{step_of, longest_of, held_by, bytes_at, front}
 use Rattle.receive.specs.Stages.{Held, GoesOn, later, SoFar, Skipped, TookAll}
 use Rattle.receive.specs.Receive.{frame_in}
 use Rattle.receive.specs.declared.Dialect.{Dialect}
-use Rattle.receive.proofs.Parts.{part_inside, kept_by, stays_held, held_rest, front_length, slice_front}
+use Rattle.receive.specs.declared.Dialect.TheVariants.{Lucid}
+use Rattle.receive.proofs.Parts.{part_inside, longest_some, kept_by, stays_held, held_rest, front_length, slice_front}
 
 -- a byte is kept, and stands last in its part frame
 kept : (d : Dialect) (part : List ℕ) (b : ℕ) (row q : List ℕ) (n : ℕ) (row' : List ℕ) → step_of d part b ≡ Kept q → held_by d part ≡ true
@@ -182,6 +176,12 @@ after_skip d n row bytes frame row' frame' count i m row'' t l k' =
       holds = k.holds;
       sofar = so_far_then d n row bytes i count row' m (count + m) row'' t.sofar k.sofar;
     }
+
+-- behind the bytes that were skipped stands one more, and their count stays small
+pub behind_skip : (d : Dialect) (count : ℕ) (row bytes : List ℕ) (i m : ℕ) (row' : List ℕ) → Skipped d count row (part bytes i (length bytes)) m row'
+    → (i + m < length bytes) × (count + m ≤ longest_of Lucid)
+behind_skip d count row bytes i m row' k =
+    (omega (arith, k.fewer, ap length (part_rest bytes i), length-drop i bytes), omega (arith, k.holds.few, (longest_some d).1))
 
 module _ (d : Dialect) (n : ℕ) (row bytes frame row' frame' : List ℕ) (count i : ℕ) (t : Turn d n row bytes frame row' frame' count i) where
   -- no byte is left

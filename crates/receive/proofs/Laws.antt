@@ -1,10 +1,5 @@
 -- A refusal changes nothing; a done call changes the part frame alone: memory, words and the pending change stay. Assumes nothing.
-use mathlib.Core.Path.{◌≡◌, refl, ◌∙◌}
-use mathlib.Core.List.{List, []}
-use Prim.Native.Nat.{ℕ, ◌≤◌}
-use native.Mathlib.Omega.{arith}
-use lib.Dec.{leb, eqb}
-use lib.ListN.{length, take}
+use Rattle.std.proofs.Common.{◌≡◌, refl, ◌∙◌, List, [], ℕ, ◌≤◌, arith, leb, eqb, length, take}
 use Rattle.wire.proofs.Cases.{by_choice}
 use Rattle.receiver.proofs.Stored.{stored_length, stored_front}
 use Rattle.card.specs.Numbers.{done, foreign_address, card_unfit, frame_buffer_short}

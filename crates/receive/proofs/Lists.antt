@@ -1,11 +1,7 @@
 -- Calls of a receiver on the card: what a list of them hands over and leaves is what the line gives, byte by byte, for the bytes they took and the quiet marks
 -- between them. Assumes nothing.
-use mathlib.Core.Path.{◌≡◌, refl, sym, ap, ap₂, ◌∙◌, subst}
-use mathlib.Core.Bool.{true}
-use mathlib.Core.List.{List, [], ◌∷◌, ◌++◌}
+use Rattle.std.proofs.Common.{◌≡◌, refl, sym, ap, ap₂, ◌∙◌, subst, true, List, [], ◌∷◌, ◌++◌, ℕ, leb}
 use Prim.{Unit}
-use Prim.Native.Nat.{ℕ}
-use lib.Dec.{leb}
 use Rattle.wire.specs.Choose.{choose}
 use Rattle.wire.proofs.Cases.{by_both}
 use Rattle.receiver.specs.Step.{Fate}

@@ -1,13 +1,6 @@
 -- What the four dialects' receivers have in common, and where part frames stand in the row. Assumes nothing.
-use mathlib.Core.Path.{◌≡◌, refl}
-use mathlib.Core.Bool.{true, false}
-use mathlib.Core.List.{List, [], ◌∷◌, ◌++◌}
-use Prim.Native.Nat.{ℕ, ◌+◌, ◌-◌, ◌≤◌, ◌<◌}
-use native.Mathlib.Omega.{arith}
-use borrow.Author.Tests.{leb-true, le-leb, lt-leb}
-use lib.Dec.{leb}
-use lib.ListN.{length, drop, length-drop}
-use lib.Seq.{length-take-le}
+use Rattle.std.proofs.Common.{◌≡◌, refl, true, false, List, [], ◌∷◌, ◌++◌, ℕ, ◌+◌, ◌-◌, ◌≤◌, ◌<◌, arith, leb-true, le-leb, leb, length, drop, length-drop, length-take-le, sym, ap, ◌∙◌, subst, Bool}
+use borrow.Author.Tests.{lt-leb}
 use Rattle.wire.specs.Buffer.{part}
 use Rattle.wire.proofs.Tests.{and_true}
 use Rattle.receiver.specs.Step.Fate.{Kept}
@@ -25,6 +18,10 @@ use Rattle.lecom.proofs.Receiver as lecomLaws
 use Rattle.love.proofs.Receiver as loveLaws
 use Rattle.lucid.proofs.Receiver as lucidLaws
 use Rattle.receive.specs.Parts.{step_of, longest_of, held_by, part_at, bytes_at, front, part_of, within, all_within}
+use Rattle.receiver.specs.Step.{Step}
+use Rattle.receiver.specs.Place.{Placed, Room, Sure}
+use Rattle.receiver.specs.declared.Place.{Place}
+use Rattle.receive.specs.Rules.{IsOf}
 use Rattle.receive.specs.Receive.{ready}
 use Rattle.receive.specs.Stages.{Held}
 use Rattle.receive.specs.declared.Dialect.{Dialect}
@@ -69,6 +66,20 @@ held_rest Datalink = refl
 held_rest Lecom = refl
 held_rest Love = refl
 held_rest Lucid = refl
+
+-- what the type of a dialect tells, told of the dialect
+module _ {d : Dialect} {step : Step} {held : List ℕ → Bool} {longest at : ℕ} (r : IsOf d step held longest at) where
+  pub held_to : (p : List ℕ) → held_by d p ≡ true → held p ≡ true
+  held_to p h = ap (λ (f : List ℕ → Bool). f p) r.holds ∙ h
+
+  pub holds_by : (p : List ℕ) → held p ≡ held_by d p
+  holds_by p = ap (λ (f : List ℕ → Bool). f p) r.holds
+
+  pub placed_by : (p : List ℕ) (b : ℕ) (place : Place) → Placed step longest p b place → Placed (step_of d) (longest_of d) p b place
+  placed_by p b place k = record { fate = ap (λ (f : Step). f p b) (sym r.steps) ∙ k.fate; room = subst (λ (n : ℕ). Room n (length p) place) r.most k.room }
+
+  pub sure_by : (p : List ℕ) (n : ℕ) → Sure held longest p n → Sure (held_by d) (longest_of d) p n
+  sure_by p n k = record { kept = λ more h. ap (λ (f : List ℕ → Bool). f (p ++ more)) (sym r.holds) ∙ k.kept more h; room = subst (λ (m : ℕ). length p + n ≤ m) r.most k.room }
 
 pub front_length : (d : Dialect) (n : ℕ) (row : List ℕ) → length row ≡ row_size → n ≤ longest_of d → length (front d n row) ≡ n
 front_length d n row l h = length-take-le n (drop (bytes_at d) row) (omega (arith, length-drop (bytes_at d) row, part_inside d))

@@ -1,9 +1,5 @@
 -- A card that is ready stays ready: no line leads a receiver out of the rules. Assumes nothing.
-use mathlib.Core.Path.{◌≡◌, refl, subst}
-use mathlib.Core.Bool.{true}
-use mathlib.Core.List.{List}
-use Prim.Native.Nat.{ℕ}
-use lib.Dec.{leb}
+use Rattle.std.proofs.Common.{◌≡◌, refl, subst, true, List, ℕ, leb}
 use Rattle.wire.proofs.Cases.{yes, by_choice}
 use Rattle.wire.proofs.Tests.{both}
 use Rattle.card.specs.Layout.{Card}

@@ -1,7 +1,5 @@
 -- What the entry receive tells, refused or done. Assumes nothing.
-use mathlib.Core.Path.{◌≡◌, sym, ap, ap₂, ◌∙◌, refl, subst}
-use mathlib.Core.List.{List}
-use Prim.Native.Nat.{ℕ}
+use Rattle.std.proofs.Common.{◌≡◌, sym, ap, ap₂, ◌∙◌, refl, subst, List, ℕ}
 use Rattle.wire.proofs.Buffers.{overlay_none}
 use Rattle.card.specs.Layout.{Card, with_ports}
 use Rattle.card.specs.Row.{count_at, with_count}

@@ -1,16 +1,7 @@
 -- The row after a call: the dialect's part frame stands in it as the line has it, and the rest of the row stays. Assumes nothing.
-use mathlib.Core.Path.{◌≡◌, refl, sym, ap, ap₂, ◌∙◌, subst}
-use mathlib.Core.Bool.{Bool, true, false, ◌&&◌}
-use mathlib.Core.List.{List, [], ◌∷◌, ◌++◌}
-use mathlib.Core.Logic.{◌⊎◌}
-use mathlib.Core.Logic.◌⊎◌.{inl, inr}
-use Prim.Native.Nat.{ℕ, zero, suc, ◌+◌, ◌-◌, ◌*◌, ◌/◌, ◌%◌, ◌≤◌, ◌<◌}
-use native.Mathlib.Omega.{arith}
+use Rattle.std.proofs.Common.{◌≡◌, refl, sym, ap, ap₂, ◌∙◌, subst, Bool, true, false, ◌&&◌, List, [], ◌∷◌, ◌++◌, ◌⊎◌, inl, inr, ℕ, zero, suc, ◌+◌, ◌-◌, ◌*◌, ◌/◌, ◌%◌, ◌≤◌, ◌<◌, arith, leb-true, le-leb, leb, length, get_or, take, drop, set, length-append, length-set, get_or-take, get_or-drop, get_or-set_same, get_or-set_other, drop-set-lt, take-take, drop-drop}
 use native.Mathlib.Decide.{dec_lt}
-use borrow.Author.Tests.{leb-true, le-leb}
-use lib.Dec.{leb}
-use lib.ListN.{length, get_or, take, drop, set, length-append, length-set}
-use lib.Seq.{get_or-take, get_or-drop, get_or-set_same, get_or-set_other, take-set-le, drop-set-lt, take-take, drop-drop}
+use lib.Seq.{take-set-le}
 use Rattle.wire.specs.Sum.{byte_values}
 use Rattle.wire.proofs.Tests.{and_true}
 use Rattle.receiver.specs.Step.{Fate}

@@ -1,3 +1,4 @@
 pub mod Parts
 pub mod Receive
 pub mod Stages
+pub mod Rules

@@ -1,5 +1,5 @@
 -- What the functions under the entries tell.
-use Rattle.std.specs.Prelude.{ℕ, ◌+◌, ◌≤◌, ◌<◌, ◌≡◌, true, List, [], ◌∷◌, ◌++◌, length, drop}
+use Rattle.std.specs.Prelude.{ℕ, ◌+◌, ◌≤◌, ◌<◌, ◌≡◌, true, List, [], ◌∷◌, ◌++◌, length, drop, Option, Some, None}
 use Rattle.card.specs.Reply.{Wrote}
 use Rattle.receiver.specs.Step.Fate.{Finished}
 use Rattle.receiver.specs.Line.{Collected, counted, collect}
@@ -7,8 +7,6 @@ use Rattle.receiver.specs.Store.{stored}
 use Rattle.receive.specs.Parts.{step_of, longest_of, held_by, bytes_at, front}
 use Rattle.receive.specs.Receive.{frame_in}
 use Rattle.receive.specs.declared.Dialect.{Dialect}
-use Rattle.receive.specs.declared.Fed.{Fed}
-use Rattle.receive.specs.declared.Fed.TheVariants.{Open, Finished as Ended}
 use Rattle.receive.specs.declared.Gathered.{Gathered}
 
 -- n bytes collected are a part frame within the rules
@@ -23,9 +21,9 @@ pub record GoesOn (d : Dialect) (part : List ℕ) (b : ℕ) (row : List ℕ) (n 
   pub holds : Held d n row'
 
 -- what a byte left: so many bytes collected, or it finished a frame
-abbrev pub TookByte : Dialect → ℕ → List ℕ → ℕ → Fed → List ℕ → Type 0
-TookByte d n row b (Open m) row' = GoesOn d (front d n row) b row m row'
-TookByte d n row b Ended row' = ((step_of d (front d n row) b ≡ Finished (front d n row ++ (b ∷ []))) × (n < longest_of d)) × (row' ≡ row)
+abbrev pub TookByte : Dialect → ℕ → List ℕ → ℕ → Option ℕ → List ℕ → Type 0
+TookByte d n row b (Some m) row' = GoesOn d (front d n row) b row m row'
+TookByte d n row b None row' = ((step_of d (front d n row) b ≡ Finished (front d n row ++ (b ∷ []))) × (n < longest_of d)) × (row' ≡ row)
 
 -- a call with i bytes more
 abbrev pub later : ℕ → Collected → Collected

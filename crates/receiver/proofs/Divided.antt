@@ -1,9 +1,5 @@
 -- "However one byte sequence with its quiet marks is divided over calls, frames and final receiver state are equal." Assumes nothing.
-use mathlib.Core.Path.{◌≡◌, refl, sym, ap, ap₂, ◌∙◌}
-use mathlib.Core.List.{List, [], ◌∷◌, ◌++◌, append_assoc}
-use Prim.Native.Nat.{ℕ}
-use native.Mathlib.Omega.{arith}
-use lib.ListN.{length, take}
+use Rattle.std.proofs.Common.{◌≡◌, refl, sym, ap, ap₂, ◌∙◌, List, [], ◌∷◌, ◌++◌, append_assoc, ℕ, arith, length, take}
 use Rattle.receiver.specs.Step.{Step, at_rest}
 use Rattle.receiver.specs.Line.{collect, Mark, heard, Call, run, as_bytes, took, lend_rest}
 use Rattle.receiver.specs.Line.Mark.{Quiet}

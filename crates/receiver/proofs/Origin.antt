@@ -1,11 +1,6 @@
 -- Origin: where the frames and the part frame stand in the line; and the part frames that a line leads to. Assumes nothing.
-use mathlib.Core.Path.{◌≡◌, refl, sym, ap, ◌∙◌, subst}
-use mathlib.Core.Bool.{Bool, true}
-use mathlib.Core.List.{List, [], ◌∷◌, ◌++◌, append_assoc, append-nil}
-use mathlib.Core.Logic.{◌⊎◌}
-use mathlib.Core.Logic.◌⊎◌.{inl, inr}
+use Rattle.std.proofs.Common.{◌≡◌, refl, sym, ap, ◌∙◌, subst, Bool, true, List, [], ◌∷◌, ◌++◌, append_assoc, append-nil, ◌⊎◌, inl, inr, ℕ}
 use Prim.{Unit}
-use Prim.Native.Nat.{ℕ}
 use lib.Seq.{append_snoc}
 use Rattle.receiver.specs.Step.{Fate, Step, at_rest}
 use Rattle.receiver.specs.Step.Fate.{Kept, Dropped, Finished}

@@ -1,9 +1,5 @@
 -- What the bytes of a part frame leave of the table they stand in. Assumes nothing.
-use mathlib.Core.Path.{◌≡◌, refl, ◌∙◌}
-use mathlib.Core.List.{List, [], ◌∷◌}
-use Prim.Native.Nat.{ℕ, ◌+◌, ◌-◌, ◌≤◌}
-use native.Mathlib.Omega.{arith}
-use lib.ListN.{length, take, length-set}
+use Rattle.std.proofs.Common.{◌≡◌, refl, ◌∙◌, List, [], ◌∷◌, ℕ, ◌+◌, ◌-◌, ◌≤◌, arith, length, take, length-set}
 use lib.Seq.{take-set-le}
 use Rattle.receiver.specs.Step.{Fate, Step, at_rest}
 use Rattle.receiver.specs.Step.Fate.{Kept, Dropped, Finished}

@@ -1,10 +1,5 @@
 -- No byte behind a part frame is sure: that holds of every one within the rules. Assumes nothing.
-use mathlib.Core.Path.{◌≡◌, sym, subst}
-use mathlib.Core.Bool.{Bool, true}
-use mathlib.Core.List.{List, [], ◌∷◌, ◌++◌, append-nil}
-use Prim.Native.Nat.{ℕ, ◌≤◌}
-use native.Mathlib.Omega.{arith}
-use lib.ListN.{length}
+use Rattle.std.proofs.Common.{◌≡◌, sym, subst, Bool, true, List, [], ◌∷◌, ◌++◌, append-nil, ℕ, ◌≤◌, arith, length}
 use Rattle.receiver.specs.Place.{Sure}
 
 pub sure_none : (held : List ℕ → Bool) (longest : ℕ) (p : List ℕ) → held p ≡ true → length p ≤ longest → Sure held longest p 0

@@ -1,13 +1,8 @@
 -- Laws of specs/Entries.antt: the largest value of each kind of entry, and where an entry of two bytes stands. Assumes nothing.
-use mathlib.Core.Path.{◌≡◌, sym, ap, ◌∙◌, refl}
-use mathlib.Core.Bool.{Bool, true, false}
-use Prim.Native.Nat.{ℕ, zero, suc, ◌-◌, ◌≤◌, ◌<◌}
-use native.Mathlib.Omega.{arith}
+use Rattle.std.proofs.Common.{◌≡◌, ℕ, zero, suc, ◌-◌, ◌<◌, ◌≤◌, Bool, true, false, sym, refl, ap, ◌∙◌, arith}
 use Rattle.wire.proofs.Cases.{yes, no, cases}
 use Rattle.card.specs.Layout.{word_count}
-use Rattle.receive.specs.declared.Dialect.{Dialect}
-use Rattle.receive.specs.declared.Dialect.TheVariants.{Datalink, Lecom, Love, Lucid}
-use Rattle.tables.specs.Entries.{row_from, entry_count, index_of, is_second, row_most, most_of, Tabled, PartTabled}
+use Rattle.tables.specs.Entries.{row_from, index_of, is_second, row_most, most_of}
 
 pub most_word : (entry : ℕ) → entry < word_count → most_of entry ≡ 4294967295
 unfolding most_of
@@ -35,10 +30,3 @@ row_two place e d t = sym (yes _ _ _ _ (sym (ap is_second e) ∙ sym d ∙ t) re
 pub row_byte : {r : Bool} {i : ℕ} (place : ℕ) → i ≡ index_of place → r ≡ is_second i → r ≡ false → row_most place ≡ 255
 unfolding row_most
 row_byte place e d t = sym (no _ _ _ _ (sym (ap is_second e) ∙ sym d ∙ t) refl)
-
--- the tables of the part frames stand in the row
-pub part_tabled : {first count : ℕ} (d : Dialect) → PartTabled d first count → Tabled entry_count first count
-part_tabled Datalink p = record { inside = omega (arith, p.from, p.long); few = omega (arith, p.long) }
-part_tabled Lecom p = record { inside = omega (arith, p.from, p.long); few = omega (arith, p.long) }
-part_tabled Love p = record { inside = omega (arith, p.from, p.long); few = omega (arith, p.long) }
-part_tabled Lucid p = record { inside = omega (arith, p.from, p.long); few = omega (arith, p.long) }

@@ -1,16 +1,10 @@
 -- The entries that `poke` and `peek` reach, in one numbering: the words, memory, then the port's row by its places. Only kind, address and NUM of
 -- the pending change come in another order than in the row; and an entry of two bytes stands at the second.
-use Rattle.std.specs.Prelude.{ℕ, ◌+◌, ◌-◌, ◌≤◌, ◌≡◌, Bool, ◌||◌, List, length, ltb, eqb}
+use Rattle.std.specs.Prelude.{ℕ, ◌+◌, ◌-◌, ◌≤◌, ◌≡◌, Bool, ◌||◌, ltb, eqb}
 use Rattle.wire.specs.Choose.{choose}
 use Rattle.card.specs.Layout.{word_count, memory_size, row_size, kind_at, num_at, high_address_at, data_most, datalink_part_at, lecom_part_at, love_part_at, lucid_part_at}
 use Rattle.receive.specs.declared.Dialect.{Dialect}
 use Rattle.receive.specs.Parts.{part_at, longest_of}
-
--- the card's tables at their lengths
-pub record Tables (words memory ports : List ℕ) : Type 0 where
-  pub words_length : length words ≡ word_count
-  pub memory_length : length memory ≡ memory_size
-  pub ports_length : length ports ≡ row_size
 
 -- where the row's entries start, and where all end
 abbrev pub row_from : ℕ

@@ -1,56 +1,44 @@
 // The dialects by name.
-ghost use Rattle.std.specs.Prelude.{◌≡◌, ◌≤◌, length};
-ghost use Rattle.tables.specs.Names.{Named, NamedFrom};
+ghost use Rattle.std.specs.Prelude.{◌≡◌, ◌≤◌};
+ghost use Rattle.tables.specs.Names.{name_of, Named, NamedFrom};
 
 use lines::line;
+use lines::line::Line;
 use receive::Dialect;
 
-// A word as a dialect's name: whether it is one, of which dialect, and where the next word starts.
-#[derive(Clone, Copy)]
-pub struct Spoken {
-    pub right: bool,
-    pub dialect: Dialect,
-    pub next: usize,
-}
+const DIALECTS: [Dialect; 4] = [
+    Dialect::Datalink,
+    Dialect::Lecom,
+    Dialect::Love,
+    Dialect::Lucid,
+];
 
-// The dialect of a name, where the next word starts at next.
-fn dialect_of(name: &[u8], next: usize) -> Spoken
-    ensures { Named name.now result.right result.dialect × (result.next ≡ next) }
+fn name_of(dialect: Dialect) -> &'static [u8]
+    ensures { result.now ≡ name_of dialect }
 {
-    if line::is_word(name, b"datalink") {
-        return Spoken {
-            right: true,
-            dialect: Dialect::Datalink,
-            next,
-        };
-    }
-    if line::is_word(name, b"lecom") {
-        return Spoken {
-            right: true,
-            dialect: Dialect::Lecom,
-            next,
-        };
-    }
-    if line::is_word(name, b"love") {
-        return Spoken {
-            right: true,
-            dialect: Dialect::Love,
-            next,
-        };
-    }
-    Spoken {
-        right: line::is_word(name, b"lucid"),
-        dialect: Dialect::Lucid,
-        next,
+    match dialect {
+        Dialect::Datalink => b"datalink",
+        Dialect::Lecom => b"lecom",
+        Dialect::Love => b"love",
+        Dialect::Lucid => b"lucid",
     }
 }
 
-// The word at at as a dialect's name.
-pub fn read_dialect(s: &[u8], at: usize) -> Spoken
-    requires { at ≤ length s.now }
-    ensures { NamedFrom s.now at result.right result.dialect × ((at ≤ result.next) × (result.next ≤ length s.now)) }
+// The dialect of a name.
+pub fn dialect_of(name: &[u8]) -> Option<Dialect>
+    ensures { Named name.now result }
 {
-    let word = line::read_word(s, at);
-    let end = word.end;
-    dialect_of(&s[at..end], word.next)
+    DIALECTS
+        .iter()
+        .copied()
+        .find(|dialect| line::is_word(name, name_of(*dialect)))
+}
+
+// The next word as a dialect's name.
+pub fn read_dialect(line: &mut Line) -> Option<Dialect>
+    ensures named { NamedFrom line.old.bytes.now line.old.at result }
+    ensures stays { line.new.bytes.now ≡ line.old.bytes.now }
+    ensures after { line.old.at ≤ line.new.at }
+{
+    dialect_of(line.word())
 }

@@ -1,8 +1,9 @@
 // Every entry of the tables in one numbering: the words first, then memory, then the port's row by its places.
-ghost use Rattle.std.specs.Prelude.{◌≡◌, true, ◌≤◌, ◌<◌, length};
+ghost use Rattle.std.specs.Prelude.{◌≡◌, true, ◌≤◌, ◌<◌};
 ghost use Rattle.card.specs.Layout.{word_count, row_size};
-ghost use Rattle.tables.specs.Entries.{Tables, entry_count, index_of, is_second, row_most, most_of};
+ghost use Rattle.tables.specs.Entries.{entry_count, index_of, is_second, row_most, most_of};
 
+use crate::Tables;
 use card::change;
 use card::layout::{
     BUFFER, DATALINK_PART, DEMANDS, HIGH_ADDRESS, KIND, LECOM_PART, LOVE, LOVE_PART, LUCID_PART,
@@ -26,12 +27,13 @@ const TWO_BYTES_MOST: u32 = 65_535;
 
 // Whether a word is signed: Love parameters and registers.
 pub(crate) fn is_signed(entry: usize) -> bool {
-    let love = (LOVE <= entry) & (entry < DEMANDS);
-    let register = (BUFFER <= entry) & (entry < WORDS);
-    love | register
+    let love = LOVE <= entry && entry < DEMANDS;
+    let register = BUFFER <= entry && entry < WORDS;
+    love || register
 }
 
 // Where an entry of the row stands in it: one of two bytes at the second, so that a part frame's count stands right before its bytes.
+// A chain of tests, here and in `is_second`: wrong programs change one (num_as_an_address, count_of_one_byte).
 fn index(place: usize) -> usize
     requires { place < row_size }
     ensures { (result ≡ index_of place) × (result < row_size) }
@@ -83,60 +85,53 @@ pub(crate) fn most(entry: usize) -> u32
     row_most(entry - ROW_FROM)
 }
 
-pub(crate) fn wide(b: u8) -> u32 {
-    b as u32
-}
+impl Tables {
+    fn load_row(&self, place: usize) -> u32
+        requires { place < row_size }
+    {
+        let i = index(place);
+        if is_second(i) {
+            return change::two_bytes(self.row[i - 1], self.row[i]) as u32;
+        }
+        self.row[i] as u32
+    }
 
-fn load_row(ports: &[u8], place: usize) -> u32
-    requires { (place < row_size) × (length ports.now ≡ row_size) }
-{
-    let i = index(place);
-    if is_second(i) {
-        return change::two_bytes(ports[i - 1], ports[i]) as u32;
+    pub(crate) fn load(&self, entry: usize) -> u32
+        requires { entry < entry_count }
+    {
+        if entry < WORDS {
+            return self.words[entry];
+        }
+        if entry < ROW_FROM {
+            return self.memory[entry - WORDS] as u32;
+        }
+        self.load_row(entry - ROW_FROM)
     }
-    wide(ports[i])
-}
 
-pub(crate) fn load(words: &[u32], memory: &[u8], ports: &[u8], entry: usize) -> u32
-    requires { Tables words.now memory.now ports.now × (entry < entry_count) }
-{
-    if entry < WORDS {
-        return words[entry];
+    // By % and /: that each half fits a byte is what a wrong program breaks (whole_number_as_its_low_byte).
+    fn store_row(&mut self, place: usize, value: u32)
+        requires { (place < row_size) × (value ≤ row_most place) }
+    {
+        let i = index(place);
+        if is_second(i) {
+            self.row[i - 1] = (value % BYTE_VALUES) as u8;
+            self.row[i] = (value / BYTE_VALUES) as u8;
+            return;
+        }
+        self.row[i] = value as u8;
     }
-    if entry < ROW_FROM {
-        return wide(memory[entry - WORDS]);
-    }
-    load_row(ports, entry - ROW_FROM)
-}
 
-fn store_row(ports: &mut [u8], place: usize, value: u32)
-    requires { (place < row_size) × ((length ports.old ≡ row_size) × (value ≤ row_most place)) }
-{
-    let i = index(place);
-    if is_second(i) {
-        ports[i - 1] = (value % BYTE_VALUES) as u8;
-        ports[i] = (value / BYTE_VALUES) as u8;
-        return;
+    pub(crate) fn store(&mut self, entry: usize, value: u32)
+        requires { (entry < entry_count) × (value ≤ most_of entry) }
+    {
+        if entry < WORDS {
+            self.words[entry] = value;
+            return;
+        }
+        if entry < ROW_FROM {
+            self.memory[entry - WORDS] = value as u8;
+            return;
+        }
+        self.store_row(entry - ROW_FROM, value);
     }
-    ports[i] = value as u8;
-}
-
-pub(crate) fn store(
-    words: &mut [u32],
-    memory: &mut [u8],
-    ports: &mut [u8],
-    entry: usize,
-    value: u32,
-)
-    requires { Tables words.old memory.old ports.old × ((entry < entry_count) × (value ≤ most_of entry)) }
-{
-    if entry < WORDS {
-        words[entry] = value;
-        return;
-    }
-    if entry < ROW_FROM {
-        memory[entry - WORDS] = value as u8;
-        return;
-    }
-    store_row(ports, entry - ROW_FROM, value);
 }

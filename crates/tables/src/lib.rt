@@ -5,164 +5,114 @@ pub mod dialect;
 mod entry;
 mod table;
 
-ghost use Rattle.std.specs.Prelude.{◌≡◌, ◌+◌, ◌≤◌, ◌<◌, length};
-ghost use Rattle.card.specs.Layout.{row_size};
-ghost use Rattle.lines.specs.Lent.{answer_most};
-ghost use Rattle.tables.specs.Entries.{Tables, change_count, entry_count, most_of, Tabled};
+ghost use Rattle.std.specs.Prelude.{◌≡◌, ◌+◌, ◌≤◌, ◌<◌, length, IfSome};
+ghost use Rattle.tables.specs.Entries.{change_count, entry_count, most_of, Tabled};
 
 use card::change::NO_CHANGE;
-use card::layout::{COUNT, DATA_MOST, KIND, NUM, WORDS};
+use card::layout::{COUNT, DATA_MOST, KIND, MEMORY, NUM, ROW, WORDS};
 use card::row;
 use entry::ROW_FROM;
-use lines::line::Number;
-use lines::text::SPACE;
-use lines::{UNREAD, line, text};
+use lines::Answer;
+use lines::line::Line;
 use table::{CHANGE_DATA, CHANGE_FROM, Span};
 
-// The word of the line at at as a value that the entry can hold.
-fn read_value(s: &[u8], at: usize, entry: usize) -> Number
-    requires { (at ≤ length s.now) × (entry < entry_count) }
-    ensures { (result.value ≤ most_of entry) × (result.next ≤ length s.now) }
+// The card's tables: the words, memory, and the port's row.
+#[derive(Drop)]
+pub struct Tables {
+    pub words: [u32; WORDS],
+    pub memory: [u8; MEMORY],
+    pub row: [u8; ROW],
+}
+
+// The next word as a value that the entry can hold.
+fn read_value(line: &mut Line, entry: usize) -> Option<u32>
+    requires { entry < entry_count }
+    ensures { IfSome result (λ v. v ≤ most_of entry) }
 {
     if WORDS <= entry {
-        return line::read_number(s, at, entry::most(entry));
+        return line.number(entry::most(entry));
     }
     if entry::is_signed(entry) {
-        return line::read_signed(s, at);
+        return line.signed();
     }
-    line::read_number(s, at, u32::MAX)
-}
-
-// What poke asks for: whether it can be read, the entry and its value.
-#[derive(Clone, Copy)]
-struct Change {
-    right: bool,
-    entry: usize,
-    value: u32,
-}
-
-fn read_poke(s: &[u8]) -> Change
-    ensures { (result.entry < entry_count) × (result.value ≤ most_of result.entry) }
-{
-    let t = table::read_table(s);
-    let place = line::read_number(s, t.next, u32::MAX);
-    let p = place.value as usize;
-    if t.count <= p {
-        return Change {
-            right: false,
-            entry: 0,
-            value: 0,
-        };
-    }
-    let entry = t.first + p;
-    let value = read_value(s, place.next, entry);
-    Change {
-        right: place.right & (value.right & (value.next == s.len())),
-        entry,
-        value: value.value,
-    }
-}
-
-// poke TABLE PLACE VALUE
-pub fn poke(
-    words: &mut [u32],
-    memory: &mut [u8],
-    ports: &mut [u8],
-    s: &[u8],
-    out: &mut [u8],
-) -> usize
-    requires { Tables words.old memory.old ports.old × (answer_most ≤ length out.old) }
-    ensures { result ≤ answer_most }
-{
-    let p = read_poke(s);
-    if !p.right {
-        return UNREAD;
-    }
-    entry::store(words, memory, ports, p.entry, p.value);
-    text::put_words(out, 0, b"ok")
-}
-
-// How many entries of the pending change peek shows: the kind alone where there is none, else as many data bytes as NUM says.
-fn change_shown(ports: &[u8]) -> usize
-    requires { length ports.now ≡ row_size }
-    ensures { result ≤ change_count }
-{
-    if ports[KIND] == NO_CHANGE {
-        return 1;
-    }
-    let num = entry::wide(ports[NUM]) as usize;
-    if DATA_MOST < num {
-        return CHANGE_DATA + DATA_MOST;
-    }
-    CHANGE_DATA + num
+    line.number(u32::MAX)
 }
 
 // How many bytes of a part frame peek shows: those collected, room at most. Its count stands at a place of the row.
-fn part_shown(ports: &[u8], at: usize, room: usize) -> usize
-    requires { at + 1 < length ports.now }
+fn part_shown(row: &[u8], at: usize, room: usize) -> usize
+    requires { at + 1 < length row.now }
     ensures { result ≤ room }
 {
-    let n = row::count(ports, at);
+    let n = row::count(row, at);
     if room < n {
         return room;
     }
     n
 }
 
-// The entries of a table that peek shows: of a part frame its bytes alone.
-fn shown(first: usize, count: usize, ports: &[u8]) -> Span
-    requires { Tabled entry_count first count × ((0 < count) × (length ports.now ≡ row_size)) }
-    ensures { Tabled entry_count result.0 result.1 }
-{
-    if first < CHANGE_FROM {
-        return Span(first, count);
+impl Tables {
+    // poke TABLE PLACE VALUE. None, with nothing changed, where the words do not fit.
+    pub fn poke(&mut self, mut line: Line, answer: &mut Answer) -> Option<()> {
+        let table = table::read_table(&mut line)?;
+        let place = line.number(u32::MAX)? as usize;
+        if table.count <= place {
+            return None;
+        }
+        let entry = table.first + place;
+        let value = read_value(&mut line, entry)?;
+        line.end()?;
+        self.store(entry, value);
+        answer.set(b"ok");
+        Some(())
     }
-    if first == CHANGE_FROM {
-        return Span(first, change_shown(ports));
-    }
-    let at = first - ROW_FROM - (COUNT - 1);
-    Span(first + 1, part_shown(ports, at, count - 1))
-}
 
-// Entries in decimal, separated by a space. Of no entries the line is empty.
-fn show(
-    words: &[u32],
-    memory: &[u8],
-    ports: &[u8],
-    first: usize,
-    count: usize,
-    out: &mut [u8],
-) -> usize
-    requires { Tables words.now memory.now ports.now × (Tabled entry_count first count × (answer_most ≤ length out.old)) }
-    ensures { result < answer_most }
-{
-    let mut at = 0;
-    let mut i = 0;
-    while i < count {
-        let word = entry::load(words, memory, ports, first + i);
-        let end = text::put_entry(out, at, word, entry::is_signed(first + i));
-        out[end] = SPACE;
-        at = end + 1;
-        i += 1;
+    // How many entries of the pending change peek shows: the kind alone where there is none, else as many data bytes as NUM says.
+    fn change_shown(&self) -> usize
+        ensures { result ≤ change_count }
+    {
+        if self.row[KIND] == NO_CHANGE {
+            return 1;
+        }
+        let num = self.row[NUM] as usize;
+        if DATA_MOST < num {
+            return CHANGE_DATA + DATA_MOST;
+        }
+        CHANGE_DATA + num
     }
-    if at == 0 {
-        return 0;
-    }
-    at - 1
-}
 
-// peek TABLE
-pub fn peek(words: &[u32], memory: &[u8], ports: &[u8], s: &[u8], out: &mut [u8]) -> usize
-    requires { Tables words.now memory.now ports.now × (answer_most ≤ length out.old) }
-    ensures { result ≤ answer_most }
-{
-    let t = table::read_table(s);
-    if t.count == 0 {
-        return UNREAD;
+    // The entries of a table that peek shows, the first and how many: of a part frame its bytes alone.
+    fn shown(&self, table: Span) -> (usize, usize)
+        ensures { Tabled entry_count result.0 result.1 }
+    {
+        if table.first < CHANGE_FROM {
+            return (table.first, table.count);
+        }
+        if table.first == CHANGE_FROM {
+            return (table.first, self.change_shown());
+        }
+        let at = table.first - ROW_FROM - (COUNT - 1);
+        (table.first + 1, part_shown(&self.row, at, table.count - 1))
     }
-    if t.next < s.len() {
-        return UNREAD;
+
+    // Entries in decimal, separated by a space. Of no entries the line is empty.
+    fn show(&self, first: usize, count: usize, answer: &mut Answer)
+        requires { Tabled entry_count first count }
+    {
+        answer.clear();
+        for entry in first..first + count {
+            if first < entry {
+                answer.put_words(b" ");
+            }
+            answer.put_entry(self.load(entry), entry::is_signed(entry));
+        }
     }
-    let span = shown(t.first, t.count, ports);
-    show(words, memory, ports, span.0, span.1, out)
+
+    // peek TABLE. None where the words do not fit.
+    pub fn peek(&self, mut line: Line, answer: &mut Answer) -> Option<()> {
+        let table = table::read_table(&mut line)?;
+        line.end()?;
+        let (first, count) = self.shown(table);
+        self.show(first, count, answer);
+        Some(())
+    }
 }

@@ -1,5 +1,6 @@
 -- Laws of specs/Buffer.antt: an answer grows at its end, and what a change leaves before it and after it. Assumes nothing.
 use Rattle.std.proofs.Common.{◌≡◌, ℕ, zero, suc, ◌+◌, ◌-◌, ◌<◌, ◌≤◌, List, [], ◌∷◌, ◌++◌, length, get_or, take, drop, set, sym, refl, ap, ◌∙◌, append_assoc, add-zero, zero-add, add-one, arith, length-append, length-drop, take-append-drop, length-take, length-take-le, get_or-drop, take_all, drop-cons, get_or-take, take-take, drop-drop, take_at, take-add, drop_at}
+use borrow.Rule.Slice.PartMut.{put_mid}
 use lib.Seq.{take-append_seam, take-append-le, drop-append-add, set-append_seam, take-nil, sets, sets-eq, set_at}
 use Rattle.wire.specs.Buffer.{put, overlay, part}
 
@@ -43,6 +44,11 @@ overlay_set vs out x h =
 pub overlay_rest : (x : ℕ) (b out : List ℕ) → take (length b) (drop 1 (overlay (x ∷ b) out)) ≡ b
 unfolding overlay
 overlay_rest x b out = take-append_seam b (drop (suc (length b)) out)
+
+-- a part of a slice written as a whole
+pub put_part : (d ys s : List ℕ) (at k : ℕ) → ys ≡ s → k ≡ length s → put_mid at k d ys ≡ put d at s
+unfolding put
+put_part d ys s at k e n = rw (e, n) (ap (λ (l : List ℕ). take at d ++ (s ++ l)) (drop-drop (length s) at d))
 
 -- elements stored one after another
 pub put_sets : (vs d : List ℕ) (at : ℕ) → at + length vs ≤ length d → sets d at vs ≡ put d at vs

@@ -1,6 +1,6 @@
 -- `card::stop_early` meets its contract: 12, then 11, then neither. Assumes nothing.
 use Rattle.std.proofs.Common.{le-leb}
-use borrow.Author.Tests.{lt-leb}
+use Rattle.std.proofs.lemmas.Bool.{lt-leb}
 use Rattle.wire.specs.Choose.{choose}
 use Rattle.card.specs.Reply.{early}
 use Rattle.card.proofs.stop_early.Goals as goal

@@ -1,6 +1,6 @@
 -- `figures::by_sign` meets its contract. Assumes nothing.
+use Rattle.std.proofs.Common.{refl}
 use Rattle.wire.proofs.Cases.{yes, no, told_true, told_false}
-use mathlib.Core.Path.{refl}
 use Rattle.figures.proofs.by_sign.Goals as goal
 
 pub returns-then-is_negative : goal.returns-then-is_negative

@@ -1,8 +1,7 @@
--- `figures::is_negative` meets its contract: the code is the definition. Assumes nothing.
-use mathlib.Core.Path.{refl}
-use Rattle.figures.specs.Signed.{is_negative}
+-- `figures::is_negative` meets its contract. Assumes nothing.
+use Rattle.std.proofs.Common.{arith}
+use Rattle.figures.proofs.Words.{negative_read, reread}
 use Rattle.figures.proofs.is_negative.Goals as goal
 
 pub returns : goal.returns
-unfolding is_negative
-returns c = refl
+returns c = rw (c.cast_signed.ensures, reread c.args.w (omega arith)) (negative_read c.args.w (omega arith))

@@ -1,26 +1,17 @@
 -- `figures::put_digits` meets its contract. The invariant: with the j figures of v still to put, the buffer is what it becomes. Assumes nothing.
-use Prim.Native.Nat.{◌+◌, ◌%◌}
-use mathlib.Core.Path.{◌≡◌, ◌∙◌, refl}
-use native.Mathlib.Omega.{arith}
-use lib.ListN.{length-set}
+use Rattle.std.proofs.Common.{◌+◌, ◌%◌, ◌≡◌, ◌∙◌, arith, length-set}
 use Rattle.figures.specs.Figure.{char_of}
 use Rattle.figures.proofs.Characters.{char_decimal}
 use Rattle.figures.proofs.Decimals.{digits_none, digits_last}
 use Rattle.figures.proofs.put_digits.Goals as goal
 
-pub loop-j-init : goal.loop-j-init
-loop-j-init c = (omega arith, refl, refl)
-
 pub loop-j-preserved : goal.loop-j-preserved
 loop-j-preserved c = let l = c.loop-j in
     let a = c.args in
     let x : char_of (l.v % 10) ≡ 48 + l.v % 10 = char_decimal (l.v % 10) (omega arith) in
-    (omega arith, simp length-set l.invariant.1, rw (← x) (digits_last l.out a.at l.j l.v (omega arith) (omega arith) ∙ l.invariant.2))
-
-pub shape_of-out : goal.shape_of-out
-shape_of-out c = c.loop-j.invariant.1
+    (simp length-set l.invariant.0, rw (← x) (digits_last l.out a.at l.j l.v (omega arith) (omega arith) ∙ l.invariant.1))
 
 pub returns : goal.returns
 returns c = let l = c.loop-j in
     let z : l.j ≡ 0 = omega arith in
-    cc (digits_none l.out c.args.at l.v, l.invariant.2)
+    cc (digits_none l.out c.args.at l.v, l.invariant.1)

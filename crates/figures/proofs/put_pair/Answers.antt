@@ -1,15 +1,8 @@
 -- `figures::put_pair` meets its contract: two stores are a list of two put there. Assumes nothing.
-use lib.ListN.{length-set}
-use mathlib.Core.List.{[], ◌∷◌}
-use native.Mathlib.Omega.{arith}
-use native.Mathlib.Numerals.{add-one}
+use Rattle.std.proofs.Common.{[], ◌∷◌, add-one, rules}
 use Rattle.wire.proofs.Buffers.{put_sets}
 use Rattle.figures.specs.Figure.{pair_of}
-use borrow.Author.Rules.{rules}
 use Rattle.figures.proofs.put_pair.Goals as goal
-
-pub bounds-out-at-2 : goal.bounds-out-at-2
-bounds-out-at-2 c = simp length-set (omega arith)
 
 pub returns : goal.returns
 unfolding pair_of

@@ -1,9 +1,5 @@
 -- `figures::put_text` meets its contract: a sign where the word is negative, then the figures of its magnitude. Assumes nothing.
-use mathlib.Core.Bool.{true, false}
-use Prim.Native.Nat.{◌+◌}
-use mathlib.Core.Path.{◌≡◌, ◌∙◌, ap}
-use native.Mathlib.Omega.{arith}
-use lib.ListN.{set, length-set}
+use Rattle.std.proofs.Common.{true, false, ◌+◌, ◌≡◌, ◌∙◌, ap, arith, set, length-set}
 use Rattle.wire.specs.Buffer.{put}
 use Rattle.wire.proofs.Cases.{told_true, told_false}
 use Rattle.figures.specs.Decimal.{digits, size_of}

@@ -1,6 +1,5 @@
 -- `figures::size` meets its contract. The invariant: the figures of v are those of n but the k − 1 passed. Assumes nothing.
-use Prim.Native.Nat.{◌+◌}
-use mathlib.Core.Path.{◌≡◌}
+use Rattle.std.proofs.Common.{◌+◌, ◌≡◌}
 use Rattle.figures.specs.Decimal.{size_of}
 use Rattle.figures.proofs.size.Given as goal
 

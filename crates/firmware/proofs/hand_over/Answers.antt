@@ -1,5 +1,5 @@
 -- `firmware::hand_over` meets its contract. Assumes nothing.
-use mathlib.Core.Path.{refl}
+use Rattle.std.proofs.Common.{refl}
 use Rattle.firmware.proofs.hand_over.Goals as goal
 
 pub returns : goal.returns

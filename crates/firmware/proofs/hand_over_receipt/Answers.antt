@@ -1,5 +1,5 @@
 -- `firmware::hand_over_receipt` meets its contract. Assumes nothing.
-use mathlib.Core.Path.{refl}
+use Rattle.std.proofs.Common.{refl}
 use Rattle.firmware.proofs.hand_over_receipt.Goals as goal
 
 pub returns : goal.returns

@@ -1,7 +1,6 @@
 -- `firmware::nk_governor` meets its contract: what is told of a channel, told on. Assumes nothing.
-use Prim.Native.Nat.{ℕ}
-use mathlib.Core.Path.{◌≡◌, refl, ap, ◌∙◌}
-use lib.Ieee.{Float}
+use Rattle.std.specs.Prelude.{Float}
+use Rattle.std.proofs.Common.{◌≡◌, ℕ, refl, ap, ◌∙◌}
 use Rattle.wire.specs.Choose.{choose}
 use Rattle.card.specs.Layout.{Card}
 use Rattle.card.specs.Governor.{number_of, values_of, GovernorTold}

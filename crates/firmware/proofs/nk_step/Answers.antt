@@ -1,6 +1,6 @@
 -- `firmware::nk_step` meets its contract: the step of the phase and kind that the numbers mean. Assumes nothing.
+use Rattle.std.proofs.Common.{ap, ◌∙◌}
 use Rattle.firmware.specs.Phases.{code_of, step_in_c}
-use mathlib.Core.Path.{ap, ◌∙◌}
 use Rattle.firmware.proofs.nk_step.Goals as goal
 
 pub returns : goal.returns

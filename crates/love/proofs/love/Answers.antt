@@ -1,9 +1,5 @@
 -- `love::love` meets its contract: 12, then 11, then the dialect. Assumes nothing.
-use mathlib.Core.Path.{◌≡◌, sym, subst}
-use mathlib.Core.Bool.{true}
-use Prim.Native.Nat.{◌≤◌}
-use native.Mathlib.Omega.{arith}
-use lib.ListN.{length}
+use Rattle.std.proofs.Common.{◌≡◌, sym, subst, true, ◌≤◌, arith, length}
 use Rattle.card.specs.Layout.{card_of}
 use Rattle.card.specs.Fitness.{fit}
 use Rattle.card.specs.Reply.{room_least}
@@ -27,11 +23,8 @@ returns-then-number-ne-ANSWERED c = shell_stopped _ _ _ _ c.stop_early-number.en
 pub bounds-words-2 : goal.bounds-words-2
 bounds-words-2 c = omega (arith, (fit_facts _ (passed ((goal.at.bounds-words-2 c).Else-number-ne-ANSWERED)).0).words_length)
 
-pub order_of-order-requires : goal.order_of-order-requires
-order_of-order-requires c = record {
-  sheet = c.take-sheet.ensures;
-  address_le_love_address_most = (fit_facts _ (passed ((goal.at.order_of-order-requires c).Else-number-ne-ANSWERED)).0).love_address;
-}
+pub invariant_of-address : goal.invariant_of-address
+invariant_of-address c = record { right = (fit_facts _ (passed ((goal.at.invariant_of-address c).Else-number-ne-ANSWERED)).0).love_address }
 
 pub obey-requires : goal.obey-requires
 obey-requires c =

@@ -1,25 +1,16 @@
 -- `lucid_master::make` meets its contract. Assumes nothing.
-use mathlib.Core.Path.{◌≡◌, refl, sym, ap, ◌∙◌}
-use mathlib.Core.List.{List}
-use Prim.Native.Nat.{ℕ}
-use native.Mathlib.Omega.{arith}
-use lib.ListN.{length, take}
-use lib.Seq.{length-take-le}
+use Rattle.std.proofs.Common.{◌≡◌, refl, sym, ap, ◌∙◌, List, ℕ, arith, length, take, length-take-le}
 use Rattle.wire.proofs.Buffers.{overlay_front}
 use Rattle.wire.proofs.Cases.{yes, no, told_true, told_false}
 use Rattle.card.proofs.Replies.{told_as, wrote_none}
 use Rattle.asking.specs.Made.{fitted, making}
 use Rattle.lucid_master.specs.Request.{asking_of, made}
 use Rattle.lucid_master.proofs.Made.{made_length}
-use borrow.Author.Rules.{rules}
 use Rattle.lucid_master.proofs.make.Goals as goal
 
 pub returns-then-not-is_askable : goal.returns-then-not-is_askable
 unfolding making
 returns-then-not-is_askable c = told_as _ _ (no _ _ _ _ (told_false c.is_askable.ensures c.if-not-is_askable.true) refl) (record { numbered = refl; wrote = wrote_none _ })
-
-pub put_frame-len-requires : goal.put_frame-len-requires
-put_frame-len-requires c = (told_true c.is_askable.ensures c.if-not-is_askable.false, search rules)
 
 pub slice_bounds-frame-end : goal.slice_bounds-frame-end
 slice_bounds-frame-end c = let most = made_length c.args.request c.args.values.now (told_true c.is_askable.ensures c.if-not-is_askable.false) in

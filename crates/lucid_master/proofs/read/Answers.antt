@@ -1,5 +1,5 @@
 -- `lucid_master::read` meets its contract. Assumes nothing.
-use mathlib.Core.Path.{refl}
+use Rattle.std.proofs.Common.{refl}
 use Rattle.wire.proofs.Cases.{yes, no, told_true, told_false}
 use Rattle.asking.specs.Hearing.{unless_outside}
 use Rattle.lucid_master.specs.Heard.{heard}

@@ -1,11 +1,11 @@
 -- `tables::read_value` meets its contract.
-use native.Mathlib.Omega.{arith}
+use Rattle.std.proofs.Common.{arith}
+use Rattle.std.proofs.lemmas.Option.{IfSome_then}
 use Rattle.tables.proofs.Entries.{most_word}
-use borrow.Author.Rules.{rules}
 use Rattle.tables.proofs.read_value.Goals as goal
 
 pub returns-then-is_signed : goal.returns-then-is_signed
-returns-then-is_signed c = (omega (arith, most_word c.args.entry (omega arith)), search rules)
+returns-then-is_signed c = IfSome_then c.signed.result c.signed.ensures.most (λ v h. omega (arith, most_word c.args.entry (omega arith)))
 
 pub returns : goal.returns
-returns c = (omega (arith, most_word c.args.entry (omega arith)), search rules)
+returns c = IfSome_then c.number-2.result c.number-2.ensures.most (λ v h. omega (arith, most_word c.args.entry (omega arith)))

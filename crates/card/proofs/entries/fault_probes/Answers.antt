@@ -1,9 +1,10 @@
--- `card::entries::fault_probes` meets its contract: four stores are one `put`. Assumes nothing.
-use Rattle.wire.proofs.Buffers.{put_sets}
+-- `card::entries::fault_probes` meets its contract: the first bytes filled are one `put`. Assumes nothing.
+use Rattle.wire.specs.Buffer.{put}
+use Rattle.card.specs.Layout.{channels}
 use Rattle.card.specs.Entries.{faulted}
-use Rattle.std.proofs.Common.{replicate, rules}
+use Rattle.std.proofs.Common.{arith, length-take-le}
 use Rattle.card.proofs.entries.fault_probes.Goals as goal
 
 pub returns : goal.returns
-unfolding faulted
-returns c = put_sets (replicate 4 255) c.args.memory.now 0 (search rules)
+unfolding faulted put
+returns c = rw (c.fill.ensures.after (λ y e. e), length-take-le channels c.args.memory.now (omega arith))

@@ -1,11 +1,8 @@
 -- `card::entries::restore` meets its contract: registers, then parameters. Assumes nothing.
 use Rattle.wire.specs.Buffer.{put, part}
-use Rattle.std.proofs.Common.{ℕ, List, ap, ◌∙◌, inr, arith}
+use Rattle.std.proofs.Common.{ℕ, List, ap, ◌∙◌}
 use Rattle.card.specs.Entries.{restored_parameters}
 use Rattle.card.proofs.entries.restore.Goals as goal
-
-pub move_words-requires : goal.move_words-requires
-move_words-requires c = ((omega arith, omega arith), inr (omega arith))
 
 pub returns : goal.returns
 unfolding restored_parameters

@@ -2,13 +2,16 @@
 use Rattle.wire.proofs.Tests.{and_true_right}
 use Rattle.card.proofs.Scans.{parameters_next, parameters_none}
 use Rattle.std.proofs.Common.{sym, ◌∙◌, arith}
+use Rattle.std.specs.Slice.Iter.{chunks_exact_rest}
 use Rattle.card.proofs.fitness.fit_parameters.Goals as goal
 
-pub loop-i-preserved : goal.loop-i-preserved
-loop-i-preserved c = let at-loop = c in
-    let a = at-loop.args in
-    (omega arith, at-loop.loop-i.invariant.1 ∙ parameters_next a.s.now at-loop.loop-i.i at-loop.loop-i.ok c.in_span-cycle.result c.in_span-floor.result (omega arith) c.in_span-cycle.ensures c.in_span-floor.ensures)
+pub loop-pair-preserved : goal.loop-pair-preserved
+loop-pair-preserved c = let l = c.loop-pair in
+    let step = c.in-Some.ensures.steps in (
+      step.0 ∙ l.invariant.0,
+      l.invariant.1 ∙ rw step.1.0 (parameters_next c.in-Some.pair.now _ l.ok _ _ (step.1.1 ∙ l.invariant.0) c.in_span-cycle.ensures c.in_span-floor.ensures),
+    )
 
 pub returns : goal.returns
-returns c = let a = c.args in
-    sym (c.loop-i.invariant.1 ∙ rw (parameters_none a.s.now c.loop-i.i (omega arith)) (and_true_right c.loop-i.ok))
+returns c = let l = c.loop-pair in
+    sym (l.invariant.1 ∙ rw (parameters_none (chunks_exact_rest l.pair-iterator) (omega (arith, c.in-None.ensures.steps.1.0, l.invariant.0))) (and_true_right l.ok))

@@ -1,6 +1,6 @@
 -- `card::fitness::in_span` meets its contract, test by test. Assumes nothing.
 use Rattle.std.proofs.Common.{refl, le-leb}
-use borrow.Author.Tests.{lt-leb}
+use Rattle.std.proofs.lemmas.Bool.{lt-leb}
 use Rattle.wire.proofs.Cases.{yes, no}
 use Rattle.card.specs.Fitness.{in_span}
 use Rattle.card.proofs.fitness.in_span.Goals as goal

@@ -1,6 +1,6 @@
 -- `card::fitness::is_fit` meets its contract: the lengths first, then the pending change, then the words. Assumes nothing.
 use Rattle.wire.proofs.Tests.{and_false_right, and_true_right}
-use Rattle.wire.proofs.Cases.{told_no, told_yes}
+use Rattle.wire.proofs.Cases.{told_true, told_false}
 use Rattle.card.specs.Fitness.{fit}
 use Rattle.std.proofs.Common.{eq-eqb, ne_eqb}
 use Rattle.card.proofs.fitness.is_fit.Goals as goal
@@ -19,11 +19,9 @@ returns-then-ports-ne-ROW c = simp (eq-eqb _ _ c.if-words-ne-WORDS.false, eq-eqb
 
 pub returns-then-not-fit_pending : goal.returns-then-not-fit_pending
 unfolding fit
-returns-then-not-fit_pending c = let h = c in
-    simp (eq-eqb _ _ h.if-words-ne-WORDS.false, eq-eqb _ _ h.if-memory-ne-MEMORY.false, eq-eqb _ _ h.if-ports-ne-ROW.false, told_no c.fit_pending.ensures c.if-not-fit_pending.true-raw, and_false_right)
+returns-then-not-fit_pending c = simp (eq-eqb _ _ c.if-words-ne-WORDS.false, eq-eqb _ _ c.if-memory-ne-MEMORY.false, eq-eqb _ _ c.if-ports-ne-ROW.false, told_false c.fit_pending.ensures c.if-not-fit_pending.true, and_false_right)
 
 pub returns : goal.returns
 unfolding fit
-returns c = let h = c in
-    simp (eq-eqb _ _ h.if-words-ne-WORDS.false, eq-eqb _ _ h.if-memory-ne-MEMORY.false, eq-eqb _ _ h.if-ports-ne-ROW.false, told_yes c.fit_pending.ensures c.if-not-fit_pending.false-raw, and_true_right)
+returns c = simp (eq-eqb _ _ c.if-words-ne-WORDS.false, eq-eqb _ _ c.if-memory-ne-MEMORY.false, eq-eqb _ _ c.if-ports-ne-ROW.false, told_true c.fit_pending.ensures c.if-not-fit_pending.false, and_true_right)
     c.fit_words.ensures

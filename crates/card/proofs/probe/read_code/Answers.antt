@@ -11,4 +11,4 @@ returns-then-code-eq-FAULT_CODE c = search cases
 
 pub returns : goal.returns
 unfolding reading_of tenths_of
-returns c = no _ _ _ _ (ne_eqb _ _ c.if-code-eq-FAULT_CODE.false) (ap (λ (w : ℕ). Temperature (record { 0 = w })) (omega (arith, c.wrapping_sub_u32.ensures.value)))
+returns c = no _ _ _ _ (ne_eqb _ _ c.if-code-eq-FAULT_CODE.false) (ap (λ (w : ℕ). Temperature (record { 0 = w })) (omega arith))

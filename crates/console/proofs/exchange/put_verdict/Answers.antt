@@ -1,8 +1,7 @@
 -- `console::exchange::put_verdict` meets its contract. Assumes nothing.
+use Rattle.std.proofs.Common.{sym, ap, arith}
 use Rattle.lines.proofs.Puts.{put_as, put_within}
 use Rattle.console.specs.Stepped.{verdict_of}
-use native.Mathlib.Omega.{arith}
-use mathlib.Core.Path.{sym, ap}
 use Rattle.console.proofs.exchange.put_verdict.Goals as goal
 
 pub returns-in-Open : goal.returns-in-Open

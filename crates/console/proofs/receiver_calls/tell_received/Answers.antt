@@ -1,9 +1,7 @@
 -- `console::receiver_calls::tell_received` meets its contract. Assumes nothing.
-use Rattle.lines.proofs.Puts.{put_then, put_within, put_as}
+use Rattle.std.proofs.Common.{rules, arith}
+use Rattle.lines.proofs.Puts.{put_anew, put_then, put_within, put_as}
 use Rattle.console.proofs.Receipts.{received_done, received_refused}
-use lib.ListN.{length-take}
-use native.Mathlib.Omega.{arith}
-use borrow.Author.Rules.{rules}
 use Rattle.console.proofs.receiver_calls.tell_received.Goals as goal
 
 pub returns-then-number-gt-DONE : goal.returns-then-number-gt-DONE
@@ -11,9 +9,6 @@ returns-then-number-gt-DONE c = put_within (omega arith) (put_as (received_refus
 
 pub returns : goal.returns
 returns c =
-    let bytes = c.put_bytes.ensures in
-    let taken = c.put_number-end.ensures in
-    let gap = c.put_words-space.ensures in
-    let number = c.put_number-at.ensures in
-    let line = put_then (search rules) (put_then (search rules) (put_then (search rules) number gap) taken) bytes in
-    put_within (simp length-take (omega arith)) (put_as (received_done _ _ _ (search rules)) line)
+    let number = put_anew c.clear.ensures.len c.clear.ensures.out c.put_number.ensures in
+    let taken = put_then (search rules) (put_then (search rules) number c.put_words.ensures) c.put_number-2.ensures in
+    put_within (omega arith) (put_as (received_done _ _ _ (search rules)) (put_then (search rules) taken c.put_bytes.ensures))

@@ -1,5 +1,5 @@
 -- `datalink::answer::obey` meets its contract, order by order. Assumes nothing.
-use Rattle.std.proofs.Common.{sym, refl, ◌∙◌, subst, arith}
+use Rattle.std.proofs.Common.{sym, refl, subst, arith}
 use Rattle.card.proofs.Replies.{gave_silent, gave_did, same_card}
 use Rattle.datalink.specs.Answer.{obeyed, interrogated, shown, echoed, pended, ia_of}
 use Rattle.datalink.specs.Stages.{Sound}
@@ -8,30 +8,32 @@ use Rattle.datalink.proofs.answer.obey.Goals as goal
 
 pub interrogate-requires : goal.interrogate-requires
 interrogate-requires c =
-    let k = subst (Sound c.args.f.now) (sym c.requires.1 ∙ c.in-Interrogate.is) (asked_sound c.args.f.now _) in
+    let sound = subst (Sound c.args.f.now) (sym c.requires.1) (asked_sound c.args.f.now _) in
+    let k = rw (c.in-Ok-Interrogate.is, rw c.in-Ok-Interrogate.is at c.in-Ok-Interrogate.field-0-is) at sound in
     ((c.requires.0.0.ia, omega (arith, k.0)), ((k.1.0, k.1.1.0), (k.1.1.1, (c.requires.0.0.memory_length, c.requires.0.1))))
 
 pub echo-requires : goal.echo-requires
 echo-requires c =
-    let k = subst (Sound c.args.f.now) (sym c.requires.1 ∙ c.in-Change.is) (asked_sound c.args.f.now _) in
+    let sound = subst (Sound c.args.f.now) (sym c.requires.1) (asked_sound c.args.f.now _) in
+    let k = rw (c.in-Ok-Change.is, rw c.in-Ok-Change.is at c.in-Ok-Change.field-0-is) at sound in
     ((c.requires.0.0.ia, k.0), (k.1.0, (c.requires.0.0.ports_length, c.requires.0.1)))
 
-pub returns-in-Silent : goal.returns-in-Silent
+pub returns-in-Err : goal.returns-in-Err
 unfolding obeyed
-returns-in-Silent c = rw c.in-Silent.is (gave_silent _ _ _)
+returns-in-Err c = rw c.in-Err.is (gave_silent _ _ _)
 
-pub returns-in-Change : goal.returns-in-Change
+pub returns-in-Ok-Change : goal.returns-in-Ok-Change
 unfolding obeyed echoed pended ia_of
-returns-in-Change c =
+returns-in-Ok-Change c =
     let w = c.echo.ensures in
-    rw c.in-Change.is (record { numbered = refl; measured = w.0.measured; written = w.0.written; left = same_card refl refl w.1 })
+    rw (c.in-Ok-Change.is, rw c.in-Ok-Change.is at c.in-Ok-Change.field-0-is) (record { numbered = refl; measured = w.0.measured; written = w.0.written; left = same_card refl refl w.1 })
 
-pub returns-in-Acknowledge : goal.returns-in-Acknowledge
+pub returns-in-Ok-Acknowledge : goal.returns-in-Ok-Acknowledge
 unfolding obeyed
-returns-in-Acknowledge c = rw c.in-Acknowledge.is (gave_did _ _ c.acknowledge.ensures)
+returns-in-Ok-Acknowledge c = rw (c.in-Ok-Acknowledge.is, rw c.in-Ok-Acknowledge.is at c.in-Ok-Acknowledge.field-0-is) (gave_did _ _ c.acknowledge.ensures)
 
-pub returns-in-Interrogate : goal.returns-in-Interrogate
+pub returns-in-Ok-Interrogate : goal.returns-in-Ok-Interrogate
 unfolding obeyed interrogated shown ia_of
-returns-in-Interrogate c =
+returns-in-Ok-Interrogate c =
     let w = c.interrogate.ensures in
-    rw c.in-Interrogate.is (record { numbered = refl; measured = w.measured; written = w.written; left = refl })
+    rw (c.in-Ok-Interrogate.is, rw c.in-Ok-Interrogate.is at c.in-Ok-Interrogate.field-0-is) (record { numbered = refl; measured = w.measured; written = w.written; left = refl })

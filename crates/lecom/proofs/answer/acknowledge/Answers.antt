@@ -2,7 +2,7 @@
 use Rattle.card.proofs.Replies.{wrote_one}
 use Rattle.lecom.specs.Form.{ack}
 use Rattle.lecom.proofs.Writes.{done_quiet, done_sent}
-use borrow.Author.Rules.{rules}
+use Rattle.std.proofs.Common.{rules}
 use Rattle.lecom.proofs.answer.acknowledge.Goals as goal
 
 pub returns-then-quiet : goal.returns-then-quiet

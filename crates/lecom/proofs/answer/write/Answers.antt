@@ -1,21 +1,8 @@
 -- `lecom::answer::write` meets its contract, by what is named. Assumes nothing.
-use mathlib.Core.Path.{refl, subst}
-use mathlib.Core.Logic.{inl}
-use native.Mathlib.Omega.{arith}
-use borrow.Author.Tests.{eq-eqb, ne_eqb}
+use Rattle.std.proofs.Common.{refl, eq-eqb, ne_eqb}
 use Rattle.wire.proofs.Cases.{yes, no}
-use Rattle.lecom.specs.Stages.{Has}
 use Rattle.lecom.specs.Answer.{activated, stored, written}
 use Rattle.lecom.proofs.answer.write.Goals as goal
-
-pub bounds-words-k : goal.bounds-words-k
-bounds-words-k c = omega (arith, subst Has c.in-Register.is c.requires.0)
-
-pub move_words-requires : goal.move_words-requires
-move_words-requires c = ((omega arith, omega arith), inl (omega arith))
-
-pub move_words-requires-then-value-ne0-2 : goal.move_words-requires-then-value-ne0-2
-move_words-requires-then-value-ne0-2 c = ((omega arith, omega arith), inl (omega arith))
 
 pub returns-in-Register : goal.returns-in-Register
 unfolding written
@@ -40,7 +27,3 @@ returns-then-value-ne0-2 c = rw c.in-Store.is (no _ _ _ _ (ne_eqb _ _ c.if-value
 pub returns-else-value-ne0-2 : goal.returns-else-value-ne0-2
 unfolding written
 returns-else-value-ne0-2 c = rw c.in-Store.is (yes _ _ _ _ (eq-eqb _ _ c.if-value-ne0-2.false) refl)
-
-pub returns-in-Nothing : goal.returns-in-Nothing
-unfolding written
-returns-in-Nothing c = rw c.in-Nothing.is

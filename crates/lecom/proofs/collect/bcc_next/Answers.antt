@@ -1,11 +1,5 @@
 -- `lecom::collect::bcc_next` meets its contract, test by test. Assumes nothing.
-use mathlib.Core.Path.{◌≡◌, refl}
-use mathlib.Core.Bool.{false}
-use mathlib.Core.List.{List, [], ◌∷◌}
-use Prim.Native.Nat.{ℕ}
-use native.Mathlib.Omega.{arith}
-use borrow.Author.Tests.{eq-eqb, ne_eqb}
-use lib.ListN.{length}
+use Rattle.std.proofs.Common.{◌≡◌, ℕ, false, List, [], ◌∷◌, length, refl, arith, eq-eqb, ne_eqb}
 use Rattle.wire.proofs.Tests.{and_true_right, and_false_right}
 use Rattle.receiver.specs.Step.{among}
 use Rattle.lecom.specs.Receiver.{bcc_next}

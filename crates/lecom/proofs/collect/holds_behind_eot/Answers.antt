@@ -1,19 +1,9 @@
 -- `lecom::collect::holds_behind_eot` meets its contract. The invariant: the bytes from i on decide. Assumes nothing.
-use mathlib.Core.Path.{◌≡◌, refl, sym, ap, ◌∙◌}
-use mathlib.Core.List.{List}
-use Prim.Native.Nat.{ℕ, suc, ◌+◌, ◌-◌}
-use native.Mathlib.Numerals.{add-one}
-use native.Mathlib.Omega.{arith}
-use borrow.Author.Tests.{eq-eqb, ne_eqb}
-use lib.ListN.{length, take, drop, length-drop, drop_of_length-le}
-use lib.Seq.{drop-cons, take_all}
+use Rattle.std.proofs.Common.{◌≡◌, ℕ, suc, ◌+◌, ◌-◌, List, length, take, drop, sym, ap, ◌∙◌, add-one, arith, length-drop, drop_of_length-le, take_all, drop-cons, eq-eqb, ne_eqb}
 use Rattle.wire.specs.Choose.{choose}
 use Rattle.wire.proofs.Tests.{and_assoc, not_or}
 use Rattle.lecom.specs.Receiver.{held_behind_stx, held_behind_eot}
 use Rattle.lecom.proofs.collect.holds_behind_eot.Goals as goal
-
-pub loop-i-init : goal.loop-i-init
-loop-i-init c = (omega arith, refl)
 
 -- the bytes behind the one at i, as the code takes them
 rest : (s : List ℕ) (i : ℕ) → take (length s - (i + 1)) (drop (i + 1) s) ≡ drop (suc i) s
@@ -25,25 +15,25 @@ returns-then-b-eq-STX c =
     let l = c.loop-i in
     let s = c.args.bytes.now in
     c.holds_behind_stx.ensures ∙ ap held_behind_stx (rest s l.i)
-    ∙ sym (l.invariant.1 ∙ rw (drop-cons s l.i 0 (omega arith), eq-eqb _ _ c.if-b-eq-STX.true))
+    ∙ sym (l.invariant ∙ rw (drop-cons s l.i 0 (omega arith), eq-eqb _ _ c.if-b-eq-STX.true))
 
 pub returns-then-b : goal.returns-then-b
 unfolding held_behind_eot choose
 returns-then-b c =
     let l = c.loop-i in
     let s = c.args.bytes.now in
-    sym (l.invariant.1 ∙ rw (drop-cons s l.i 0 (omega arith), ne_eqb _ _ c.if-b-eq-STX.false, and_assoc, ← not_or, c.if-b.true))
+    sym (l.invariant ∙ rw (drop-cons s l.i 0 (omega arith), ne_eqb _ _ c.if-b-eq-STX.false, and_assoc, ← not_or, c.if-b.true))
 
 pub loop-i-preserved : goal.loop-i-preserved
 unfolding held_behind_eot choose
 loop-i-preserved c =
     let l = c.loop-i in
     let s = c.args.bytes.now in
-    (omega arith, rw (add-one l.i) (l.invariant.1 ∙ rw (drop-cons s l.i 0 (omega arith), ne_eqb _ _ c.if-b-eq-STX.false, and_assoc, ← not_or, c.if-b.false)))
+    rw (add-one l.i) (l.invariant ∙ rw (drop-cons s l.i 0 (omega arith), ne_eqb _ _ c.if-b-eq-STX.false, and_assoc, ← not_or, c.if-b.false))
 
 pub returns : goal.returns
 unfolding held_behind_eot
 returns c =
     let l = c.loop-i in
     let s = c.args.bytes.now in
-    sym (l.invariant.1 ∙ rw (drop_of_length-le s {i = l.i} (omega arith)))
+    sym (l.invariant ∙ rw (drop_of_length-le s {i = l.i} (omega arith)))

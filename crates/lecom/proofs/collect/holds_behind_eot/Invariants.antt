@@ -1,12 +1,7 @@
 -- `lecom::collect::holds_behind_eot` meets its contract. The invariant: the bytes from i on decide. Assumes nothing.
-use mathlib.Core.Path.{◌≡◌}
-use Prim.Native.Nat.{◌-◌, ◌≤◌}
-use lib.ListN.{length, drop}
+use Rattle.std.proofs.Common.{◌≡◌, drop}
 use Rattle.lecom.specs.Receiver.{held_behind_eot}
 use Rattle.lecom.proofs.collect.holds_behind_eot.Given as goal
 
 abbrev pub invariant-loop-i : goal.invariant-loop-i
-invariant-loop-i l = (l.i ≤ length l.bytes) × (held_behind_eot l.bytes ≡ held_behind_eot (drop l.i l.bytes))
-
-abbrev pub decreases-loop-i : goal.decreases-loop-i
-decreases-loop-i l = length l.bytes - l.i
+invariant-loop-i l = held_behind_eot l.bytes ≡ held_behind_eot (drop l.i l.bytes)

@@ -1,20 +1,9 @@
 -- `lecom::collect::holds_behind_stx` meets its contract. The invariant: the bytes from i on decide. Assumes nothing.
-use mathlib.Core.Path.{◌≡◌, refl, sym, ◌∙◌}
-use mathlib.Core.List.{List}
-use Prim.Native.Nat.{ℕ, suc, ◌+◌, ◌<◌}
-use native.Mathlib.Numerals.{add-one}
-use native.Mathlib.Omega.{arith}
-use borrow.Author.Tests.{eqb-true, eq-eqb, ne_eqb}
-use lib.Dec.{eqb}
-use lib.ListN.{length, drop, length-drop, drop_of_length-le}
-use lib.Seq.{drop-cons}
+use Rattle.std.proofs.Common.{◌≡◌, ℕ, suc, ◌+◌, ◌<◌, eqb, List, length, drop, sym, ◌∙◌, add-one, arith, length-drop, drop_of_length-le, drop-cons, eq-eqb, ne_eqb, eqb-true}
 use Rattle.wire.specs.Choose.{choose}
 use Rattle.wire.proofs.Tests.{same_test}
 use Rattle.lecom.specs.Receiver.{held_behind_stx}
 use Rattle.lecom.proofs.collect.holds_behind_stx.Goals as goal
-
-pub loop-i-init : goal.loop-i-init
-loop-i-init c = (omega arith, refl)
 
 -- nothing is left behind the byte at i
 last : (s : List ℕ) (i : ℕ) → i < length s → eqb (length (drop (suc i) s)) 0 ≡ eqb (i + 1) (length s)
@@ -28,25 +17,25 @@ unfolding held_behind_stx choose
 returns-then-b-eq-ETX c =
     let l = c.loop-i in
     let s = c.args.bytes.now in
-    sym (l.invariant.1 ∙ rw (drop-cons s l.i 0 (omega arith), eq-eqb _ _ c.if-b-eq-ETX.true) (last s l.i (omega arith)))
+    sym (l.invariant ∙ rw (drop-cons s l.i 0 (omega arith), eq-eqb _ _ c.if-b-eq-ETX.true) (last s l.i (omega arith)))
 
 pub returns-then-b-eq-EOT : goal.returns-then-b-eq-EOT
 unfolding held_behind_stx choose
 returns-then-b-eq-EOT c =
     let l = c.loop-i in
     let s = c.args.bytes.now in
-    sym (l.invariant.1 ∙ rw (drop-cons s l.i 0 (omega arith), ne_eqb _ _ c.if-b-eq-ETX.false, eq-eqb _ _ c.if-b-eq-EOT.true))
+    sym (l.invariant ∙ rw (drop-cons s l.i 0 (omega arith), ne_eqb _ _ c.if-b-eq-ETX.false, eq-eqb _ _ c.if-b-eq-EOT.true))
 
 pub loop-i-preserved : goal.loop-i-preserved
 unfolding held_behind_stx choose
 loop-i-preserved c =
     let l = c.loop-i in
     let s = c.args.bytes.now in
-    (omega arith, rw (add-one l.i) (l.invariant.1 ∙ rw (drop-cons s l.i 0 (omega arith), ne_eqb _ _ c.if-b-eq-ETX.false, ne_eqb _ _ c.if-b-eq-EOT.false)))
+    rw (add-one l.i) (l.invariant ∙ rw (drop-cons s l.i 0 (omega arith), ne_eqb _ _ c.if-b-eq-ETX.false, ne_eqb _ _ c.if-b-eq-EOT.false))
 
 pub returns : goal.returns
 unfolding held_behind_stx
 returns c =
     let l = c.loop-i in
     let s = c.args.bytes.now in
-    sym (l.invariant.1 ∙ rw (drop_of_length-le s {i = l.i} (omega arith)))
+    sym (l.invariant ∙ rw (drop_of_length-le s {i = l.i} (omega arith)))

@@ -1,10 +1,5 @@
 -- `lecom::frame::outline_of` meets its contract, place by place. Assumes nothing.
-use Prim.Native.Nat.{ℕ, ◌+◌}
-use mathlib.Core.Path.{◌≡◌, refl, ◌∙◌}
-use mathlib.Core.List.{List}
-use native.Mathlib.Omega.{arith}
-use lib.Dec.{eqb}
-use lib.ListN.{get_or}
+use Rattle.std.proofs.Common.{◌≡◌, ℕ, ◌+◌, eqb, List, get_or, refl, ◌∙◌, arith}
 use Rattle.wire.specs.Choose.{choose}
 use Rattle.lecom.specs.Form.{start_at, stx, extended_mark}
 use Rattle.lecom.specs.Frame.{collective, ones_in, is_write, code_at, is_extended, hex_at, code_end}

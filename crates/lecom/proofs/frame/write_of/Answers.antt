@@ -1,6 +1,6 @@
 -- `lecom::frame::write_of` meets its contract, test by test. Assumes nothing.
 use Rattle.wire.proofs.Cases.{yes, no, told_true, told_false}
-use mathlib.Core.Path.{refl}
+use Rattle.std.proofs.Common.{refl}
 use Rattle.wire.specs.Choose.{choose}
 use Rattle.lecom.specs.Frame.{value_right, value_in}
 use Rattle.lecom.proofs.frame.write_of.Goals as goal
@@ -9,10 +9,10 @@ pub returns-in_default : goal.returns-in_default
 unfolding value_right choose
 returns-in_default c = rw c.in_default.is
 
-pub returns-then-not-is_taken : goal.returns-then-not-is_taken
+pub returns-then-not-takes : goal.returns-then-not-takes
 unfolding value_right
-returns-then-not-is_taken c = rw c.in-Value.is (no _ _ _ _ (told_false c.is_taken.ensures c.if-not-is_taken.true) refl)
+returns-then-not-takes c = rw c.in-Some.is (no _ _ _ _ (told_false c.takes.ensures c.if-not-takes.true) refl)
 
 pub returns : goal.returns
 unfolding value_right value_in
-returns c = rw c.in-Value.is (yes _ _ _ _ (told_true c.is_taken.ensures c.if-not-is_taken.false) refl)
+returns c = rw c.in-Some.is (yes _ _ _ _ (told_true c.takes.ensures c.if-not-takes.false) refl)

@@ -1,5 +1,5 @@
 -- `lecom_master::frames::put_frame` meets its contract, piece by piece. Assumes nothing.
-use native.Mathlib.Omega.{arith}
+use Rattle.std.proofs.Common.{arith}
 use Rattle.card.proofs.Replies.{wrote_put}
 use Rattle.lecom_master.specs.Request.{task_bytes, made}
 use Rattle.lecom_master.proofs.Requests.{askable_parts, address_most_law}

@@ -1,16 +1,9 @@
 -- `lecom_master::frames::put_start` meets its contract, byte by byte. Assumes nothing.
-use mathlib.Core.Path.{refl}
-use mathlib.Core.List.{[], ◌∷◌}
-use Prim.Native.Nat.{◌/◌, ◌%◌}
-use native.Mathlib.Omega.{arith}
-use lib.ListN.{length-set}
+use Rattle.std.proofs.Common.{◌/◌, ◌%◌, [], ◌∷◌, refl, arith}
 use Rattle.wire.proofs.Buffers.{overlay_sets}
 use Rattle.figures.specs.Figure.{decimal, char_of}
 use Rattle.lecom.specs.Form.{eot}
 use Rattle.lecom_master.proofs.frames.put_start.Goals as goal
-
-pub bounds-out-1 : goal.bounds-out-1
-bounds-out-1 c = simp length-set (omega (arith, c.requires.1))
 
 pub returns : goal.returns
 returns c =

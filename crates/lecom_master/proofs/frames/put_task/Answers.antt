@@ -1,9 +1,5 @@
 -- `lecom_master::frames::put_task` meets its contract, way by way. Assumes nothing.
-use Prim.Native.Nat.{ℕ, ◌+◌}
-use mathlib.Core.Path.{refl, ap, ◌∙◌}
-use mathlib.Core.List.{List}
-use native.Mathlib.Omega.{arith}
-use lib.ListN.{set, length-set}
+use Rattle.std.proofs.Common.{ℕ, ◌+◌, List, set, refl, ap, ◌∙◌, arith, length-set}
 use Rattle.wire.proofs.Buffers.{put_set}
 use Rattle.figures.specs.Figure.{pair_of}
 use Rattle.figures.proofs.Texts.{put_before}

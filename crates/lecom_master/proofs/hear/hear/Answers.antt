@@ -1,7 +1,5 @@
 -- `lecom_master::hear::hear` meets its contract, test by test. Assumes nothing.
-use Prim.Native.Nat.{◌≤◌}
-use mathlib.Core.Path.{◌≡◌, refl, sym, ap, ◌∙◌}
-use mathlib.Core.Bool.{true}
+use Rattle.std.proofs.Common.{◌≡◌, ◌≤◌, true, sym, refl, ap, ◌∙◌}
 use Rattle.wire.proofs.Cases.{yes, no, told_true, told_false}
 use Rattle.card.specs.Fitness.{lecom_most}
 use Rattle.lecom_master.specs.Request.{askable}

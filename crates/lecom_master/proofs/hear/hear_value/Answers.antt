@@ -1,10 +1,5 @@
 -- `lecom_master::hear::hear_value` meets its contract, test by test. Assumes nothing.
-use Prim.Native.Nat.{ℕ}
-use mathlib.Core.Path.{◌≡◌, refl, sym, ap, ◌∙◌}
-use mathlib.Core.List.{[], ◌∷◌}
-use native.Mathlib.Omega.{arith}
-use lib.ListN.{take, replicate}
-use lib.Seq.{length-take-le}
+use Rattle.std.proofs.Common.{Option, List, ◌≡◌, ℕ, [], ◌∷◌, take, replicate, sym, refl, ap, ◌∙◌, arith, length-take-le}
 use Rattle.wire.proofs.Pieces.{put_behind}
 use Rattle.wire.proofs.Cases.{yes, no, told_true, told_false}
 use Rattle.figures.proofs.Texts.{text_length}
@@ -19,16 +14,20 @@ use Rattle.lecom_master.proofs.Requests.{checked_length}
 use Rattle.lecom_master.proofs.hear.hear_value.Goals as goal
 use Rattle.lecom_master.proofs.hear.hear_value.Goals.{After-put_checked-len}
 
+pub returns-in_default : goal.returns-in_default
+unfolding heard_value answerable
+returns-in_default c = no _ _ _ _ (ap (λ (n : Option Named). answerable n c.args.value) (sym c.named_by.ensures ∙ c.in_default.is)) refl
+
 pub returns-then-not-is_answerable : goal.returns-then-not-is_answerable
 unfolding heard_value
 returns-then-not-is_answerable c =
-    no _ _ _ _ (ap (λ (n : Named). answerable n c.args.value) (sym c.named_by.ensures) ∙ told_false c.is_answerable.ensures c.if-not-is_answerable.true) refl
+    no _ _ _ _ (ap (λ (n : Option Named). answerable n c.args.value) (sym c.named_by.ensures ∙ c.in-Some.is) ∙ told_false c.is_answerable.ensures c.if-not-is_answerable.true) refl
 
 pub slice_bounds-answer-end : goal.slice_bounds-answer-end
 slice_bounds-answer-end c = omega (arith, c.put_checked-len.ensures.0, checked_length c.args.code c.args.value, text_length c.args.value)
 
-pub slice_bounds-compare-end : goal.slice_bounds-compare-end
-slice_bounds-compare-end c =
+pub slice_bounds-hear_answer-end : goal.slice_bounds-hear_answer-end
+slice_bounds-hear_answer-end c =
     sym (length-take-le _ _ (omega (arith, c.put_checked-len.ensures.0, checked_length c.args.code c.args.value, text_length c.args.value)))
 
 -- what was written is the answer
@@ -37,12 +36,9 @@ front c =
     let put = c.put_checked-len in
     ap (take put.result) put.ensures.1 ∙ put_behind (replicate 16 0) stx (checked c.args.code c.args.value) put.result (omega arith) put.ensures.0
 
-pub compare-number-requires : goal.compare-number-requires
-compare-number-requires c = (omega arith, rw (front ((goal.at.compare-number-requires c).After-put_checked-len)) (omega arith))
-
 pub returns : goal.returns
 unfolding heard_value answer_bytes
 returns c =
     let value = c.args.value in
-    yes _ _ _ _ (ap (λ (n : Named). answerable n value) (sym c.named_by.ensures) ∙ told_true c.is_answerable.ensures c.if-not-is_answerable.false)
-    (c.heard_by.ensures ∙ ap (λ (n : ℕ). heard_by n (Gives (value ∷ []))) (c.compare-number.ensures ∙ ap (against check_size check_size c.args.reply.now) (front ((goal.at.returns c).After-put_checked-len))))
+    yes _ _ _ _ (ap (λ (n : Option Named). answerable n value) (sym c.named_by.ensures ∙ c.in-Some.is) ∙ told_true c.is_answerable.ensures c.if-not-is_answerable.false)
+    (c.hear_answer.ensures ∙ ap (λ (l : List ℕ). heard_by (against check_size check_size c.args.reply.now l) (Gives (value ∷ []))) (front ((goal.at.returns c).After-put_checked-len)))

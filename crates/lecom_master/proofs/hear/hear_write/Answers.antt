@@ -1,8 +1,5 @@
 -- `lecom_master::hear::hear_write` meets its contract, test by test. Assumes nothing.
-use mathlib.Core.Path.{refl, ◌∙◌}
-use mathlib.Core.List.{[], ◌∷◌}
-use native.Mathlib.Omega.{arith}
-use borrow.Author.Tests.{eq-eqb}
+use Rattle.std.proofs.Common.{[], ◌∷◌, refl, ◌∙◌, arith, eq-eqb}
 use Rattle.wire.proofs.Pieces.{same_one}
 use Rattle.wire.proofs.Same.{lengths_apart}
 use Rattle.wire.proofs.Cases.{yes, no}

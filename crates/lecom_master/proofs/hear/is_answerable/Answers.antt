@@ -17,7 +17,3 @@ returns-in-Activate c = rw c.in-Activate.is
 pub returns-in-Store : goal.returns-in-Store
 unfolding answerable
 returns-in-Store c = rw c.in-Store.is
-
-pub returns-in-Nothing : goal.returns-in-Nothing
-unfolding answerable
-returns-in-Nothing c = rw c.in-Nothing.is

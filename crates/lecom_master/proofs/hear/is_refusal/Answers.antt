@@ -1,7 +1,5 @@
 -- `lecom_master::hear::is_refusal` meets its contract, test by test. Assumes nothing.
-use mathlib.Core.Path.{sym}
-use mathlib.Core.List.{[], ◌∷◌}
-use native.Mathlib.Omega.{arith}
+use Rattle.std.proofs.Common.{[], ◌∷◌, sym, arith}
 use Rattle.wire.proofs.Pieces.{same_one}
 use Rattle.wire.proofs.Same.{lengths_apart}
 use Rattle.wire.proofs.Tests.{or_false_right}

@@ -1,5 +1,5 @@
 -- `lecom_master::hear::is_refused_code` meets its contract, test by test. Assumes nothing.
-use mathlib.Core.Path.{◌∙◌}
+use Rattle.std.proofs.Common.{◌∙◌}
 use Rattle.lecom_master.proofs.Unknowns.{other_refused}
 use Rattle.lecom_master.proofs.Codes.{standard_refused, extended_refused}
 use Rattle.lecom_master.proofs.hear.is_refused_code.Goals as goal

@@ -1,6 +1,5 @@
 -- `lecom_master::hear::is_unknown_code` meets its contract, test by test. Assumes nothing.
-use mathlib.Core.Path.{◌∙◌}
-use native.Mathlib.Omega.{arith}
+use Rattle.std.proofs.Common.{◌∙◌, arith}
 use Rattle.lecom_master.proofs.Unknowns.{unknown_by_code, too_short, other_last, other_first}
 use Rattle.lecom_master.proofs.hear.is_unknown_code.Goals as goal
 

@@ -1,6 +1,5 @@
 -- `lecom_master::request::address_right` meets its contract. Assumes nothing.
-use mathlib.Core.Path.{ap₂}
-use mathlib.Core.Bool.{Bool, ◌||◌}
+use Rattle.std.proofs.Common.{Bool, ◌||◌, ap₂}
 use Rattle.lecom_master.specs.Request.{address_right}
 use Rattle.lecom_master.proofs.request.address_right.Goals as goal
 

@@ -1,5 +1,5 @@
 -- `lecom_master::request::is_collective` meets its contract. Assumes nothing.
-use mathlib.Core.Path.{refl}
+use Rattle.std.proofs.Common.{refl}
 use Rattle.lecom_master.specs.Request.{is_collective}
 use Rattle.lecom_master.proofs.request.is_collective.Goals as goal
 

@@ -1,12 +1,10 @@
 -- `lecom_master::request::task_right` meets its contract, way by way. Assumes nothing.
-use mathlib.Core.Path.{ap, ◌∙◌}
+use Rattle.std.proofs.Common.{ap, ◌∙◌}
 use Rattle.lecom.specs.Form.{known}
 use Rattle.lecom_master.specs.Request.{task_right}
+use Rattle.lecom_master.proofs.Requests.{some_known}
 use Rattle.lecom_master.proofs.request.task_right.Goals as goal
-
-pub returns-in-Write : goal.returns-in-Write
-returns-in-Write c = rw c.in-Write.is c.write_right.ensures
 
 pub returns-in-Read : goal.returns-in-Read
 unfolding task_right
-returns-in-Read c = rw c.in-Read.is (c.is_known.ensures ∙ ap known c.named_by.ensures)
+returns-in-Read c = rw c.in-Read.is (c.is_some.ensures ∙ some_known _ ∙ ap known c.named_by.ensures)

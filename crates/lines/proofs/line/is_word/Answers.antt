@@ -1,10 +1,7 @@
 -- `lines::line::is_word` meets its contract.
-use mathlib.Core.Path.{sym}
-use Rattle.wire.proofs.Same.{lengths_apart}
+use Rattle.std.proofs.Common.{◌∙◌}
+use Rattle.lines.proofs.Words.{same_pointwise}
 use Rattle.lines.proofs.line.is_word.Goals as goal
 
-pub returns-then-word-name : goal.returns-then-word-name
-returns-then-word-name c = sym (lengths_apart _ _ c.if-word-name.true)
-
 pub returns : goal.returns
-returns c = c.is_same.ensures
+returns c = c.eq.ensures ∙ same_pointwise _ _

@@ -1,5 +1,5 @@
 -- `lines::line::join` meets its contract.
-use native.Mathlib.Omega.{arith}
+use Rattle.std.proofs.Common.{arith}
 use Rattle.lines.proofs.Joins.{too_long, joined}
 use Rattle.lines.proofs.line.join.Goals as goal
 

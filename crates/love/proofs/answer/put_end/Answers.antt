@@ -1,6 +1,5 @@
 -- `love::answer::put_end` meets its contract. Assumes nothing.
-use mathlib.Core.Path.{refl}
-use borrow.Author.Rules.{rules}
+use Rattle.std.proofs.Common.{refl, rules}
 use Rattle.wire.specs.Sum.{sum_of}
 use Rattle.wire.specs.Buffer.{part}
 use Rattle.wire.proofs.Buffers.{put_set}

@@ -1,15 +1,10 @@
 -- `love::answer::put_error` meets its contract. Assumes nothing.
-use native.Mathlib.Omega.{arith}
-use lib.ListN.{length-set}
-use borrow.Author.Rules.{rules}
+use Rattle.std.proofs.Common.{rules}
 use Rattle.figures.specs.Figure.{pair_of}
 use Rattle.card.proofs.Replies.{wrote_set, wrote_put}
 use Rattle.love.specs.Form.{ack}
 use Rattle.love.specs.Answer.{unit_of, error_mark, error_reply}
 use Rattle.love.proofs.answer.put_error.Goals as goal
-
-pub put_pair-requires : goal.put_pair-requires
-put_pair-requires c = simp length-set (omega arith)
 
 pub returns : goal.returns
 unfolding error_reply unit_of pair_of

@@ -1,5 +1,5 @@
 -- `love::answer::put_probe` meets its contract. Assumes nothing.
-use mathlib.Core.Path.{sym, ◌∙◌}
+use Rattle.std.proofs.Common.{sym, ◌∙◌}
 use Rattle.love.proofs.Writes.{status_fault, status_temperature}
 use Rattle.love.proofs.answer.put_probe.Goals as goal
 

@@ -1,7 +1,5 @@
 -- `love::answer::put_status` meets its contract. Assumes nothing.
-use native.Mathlib.Omega.{arith}
-use lib.ListN.{length-set}
-use borrow.Author.Rules.{rules}
+use Rattle.std.proofs.Common.{rules}
 use Rattle.figures.specs.Figure.{zero_char, pair_of}
 use Rattle.figures.specs.Decimal.{digits}
 use Rattle.card.proofs.Replies.{wrote_set, wrote_put}
@@ -9,24 +7,12 @@ use Rattle.love.specs.Answer.{unit_of, status_data, figure_count}
 use Rattle.love.proofs.Writes.{wrote_normal}
 use Rattle.love.proofs.answer.put_status.Goals as goal
 
-pub bounds-out : goal.bounds-out
-bounds-out c = simp length-set (omega arith)
-
-pub bounds-out-2 : goal.bounds-out-2
-bounds-out-2 c = simp length-set (omega arith)
-
-pub bounds-out-3 : goal.bounds-out-3
-bounds-out-3 c = simp length-set (omega arith)
-
-pub put_digits-requires : goal.put_digits-requires
-put_digits-requires c = simp length-set (omega arith)
-
 pub returns : goal.returns
 unfolding status_data unit_of pair_of digits
 returns c =
     let a = c.args in
     let out = a.out.now in
-    wrote_normal a.address out (status_data a.first a.fourth a.number)
+    wrote_normal a.address.value out (status_data a.first a.fourth a.number)
     (rw c.put_digits.ensures
     (wrote_put _ out
     (wrote_set _ out (wrote_set _ out (wrote_set _ out (wrote_set _ out c.put_unit.ensures a.first (search rules)) zero_char (search rules)) zero_char (search rules)) a.fourth (search rules))

@@ -11,7 +11,7 @@ pub returns : goal.returns
 unfolding value_data unit_of pair_of digits
 returns c =
     let a = c.args in
-    wrote_normal a.address a.out.now (value_data a.word)
+    wrote_normal a.address.value a.out.now (value_data a.word)
     (rw (c.put_digits.ensures, c.magnitude.ensures, c.put_pair.ensures, c.sign_of.ensures)
     (wrote_put _ _ (wrote_put _ _ c.put_unit.ensures (pair_of (sign_of a.word))) (digits figure_count (magnitude a.word))))
     c.put_end.ensures

@@ -9,4 +9,4 @@ pub returns : goal.returns
 unfolding written_data unit_of pair_of
 returns c =
     let a = c.args in
-    wrote_normal a.address a.out.now written_data (rw c.put_pair.ensures (wrote_put _ _ c.put_unit.ensures written_data)) c.put_end.ensures
+    wrote_normal a.address.value a.out.now written_data (rw c.put_pair.ensures (wrote_put _ _ c.put_unit.ensures written_data)) c.put_end.ensures

@@ -18,8 +18,8 @@ written : (q : Request) (out : List ℕ) {end : ℕ} {mid last : List ℕ} → W
 unfolding body unit_of pair_of
 written q out w d = wrote_behind _ _ (data_of q.task) w d
 
-pub put_unit-requires : goal.put_unit-requires
-put_unit-requires c = (leb-true _ love_address_most (askable_address _ c.requires.0), omega arith)
+pub invariant_of-address : goal.invariant_of-address
+invariant_of-address c = record { right = leb-true _ love_address_most (askable_address _ c.requires.0) }
 
 pub slice_bounds-sum-end : goal.slice_bounds-sum-end
 slice_bounds-sum-end c = omega (arith, data_most_law c.args.request.task)

@@ -1,32 +1,40 @@
 -- `love_master::hear::hear` meets its contract. Assumes nothing.
-use Rattle.std.proofs.Common.{◌≡◌, true, ◌∙◌, subst, rules, ltb-true, leb-true}
+use Rattle.std.proofs.Common.{◌≡◌, ◌≤◌, true, ◌∙◌, subst, ltb-true, leb-true}
 use Rattle.card.specs.Layout.{love_count}
 use Rattle.card.specs.Fitness.{love_address_most}
 use Rattle.love_master.specs.declared.request.Task.{Task}
 use Rattle.love_master.specs.declared.request.Task.TheVariants.{Status, Read, Write}
-use Rattle.love_master.specs.Request.{task_right}
+use Rattle.love_master.specs.declared.request.Request.{Request}
+use Rattle.love_master.specs.Request.{task_right, askable}
 use Rattle.love_master.specs.Heard.{heard_task}
 use Rattle.love_master.proofs.Errors.{heard_error_law, heard_normal, askable_facts, askable_address}
 use Rattle.love_master.proofs.hear.hear.Goals as goal
 
-pub hear_error-requires : goal.hear_error-requires
-hear_error-requires c = (leb-true _ love_address_most (askable_address _ c.requires), search rules)
+-- what 7 does not refuse has the address of a unit
+right : (q : Request) → askable q ≡ true → q.address ≤ love_address_most
+right q h = leb-true _ love_address_most (askable_address q h)
+
+pub invariant_of-address : goal.invariant_of-address
+invariant_of-address c = record { right = right _ c.requires }
+
+pub invariant_of-address-in-Status : goal.invariant_of-address-in-Status
+invariant_of-address-in-Status c = record { right = right _ c.requires }
+
+pub invariant_of-address-in-Read : goal.invariant_of-address-in-Read
+invariant_of-address-in-Read c = record { right = right _ c.requires }
+
+pub invariant_of-address-in-Write : goal.invariant_of-address-in-Write
+invariant_of-address-in-Write c = record { right = right _ c.requires }
 
 pub returns-then-reply-eq-ERROR_LENGTH : goal.returns-then-reply-eq-ERROR_LENGTH
 returns-then-reply-eq-ERROR_LENGTH c = c.hear_error.ensures ∙ heard_error_law _ _ c.if-reply-eq-ERROR_LENGTH.true
-
-pub hear_status-requires : goal.hear_status-requires
-hear_status-requires c = leb-true _ love_address_most (askable_address _ c.requires)
 
 pub hear_value-requires : goal.hear_value-requires
 unfolding task_right
 hear_value-requires c =
     let pre = c.requires in
     let right = subst (λ (t : Task). task_right t ≡ true) c.in-Read.is (askable_facts _ pre).1 in
-    (leb-true _ love_address_most (askable_address _ pre), ltb-true _ love_count right)
-
-pub hear_written-requires : goal.hear_written-requires
-hear_written-requires c = leb-true _ love_address_most (askable_address _ c.requires)
+    ltb-true _ love_count right
 
 pub returns-in-Status : goal.returns-in-Status
 unfolding heard_task

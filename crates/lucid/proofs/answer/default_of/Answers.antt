@@ -1,5 +1,5 @@
 -- `lucid::answer::default_of` meets its contract. Assumes nothing.
-use borrow.Author.Tests.{eq-eqb, ne_eqb}
+use Rattle.std.proofs.Common.{eq-eqb, ne_eqb}
 use Rattle.lucid.specs.Answer.{default_of}
 use Rattle.wire.proofs.Cases.{yes, no}
 use Rattle.lucid.proofs.answer.default_of.Goals as goal

@@ -1,17 +1,16 @@
 -- `lucid::answer::put_temperature` meets its contract, type by type. Assumes nothing.
-use Rattle.lucid.specs.declared.answer.Hundredths.{Hundredths}
-use Rattle.lucid.proofs.Writes.{grew_as}
-use Rattle.lucid.specs.Form.{little}
-use Rattle.lucid.specs.Answer.{temperature_in}
+use Rattle.std.proofs.Common.{ℕ, List, ◌++◌, take, ap, ◌∙◌, eq-eqb, ne_eqb}
 use Rattle.wire.proofs.Cases.{yes, no}
-use borrow.Author.Tests.{eq-eqb, ne_eqb}
-use mathlib.Core.Path.{refl, ap}
+use Rattle.lucid.specs.Answer.{hundredths_of, temperature_in}
+use Rattle.lucid.proofs.Writes.{word_little, pair_little}
 use Rattle.lucid.proofs.answer.put_temperature.Goals as goal
 
 pub returns-then-value_type-eq-TENTHS : goal.returns-then-value_type-eq-TENTHS
 unfolding temperature_in
-returns-then-value_type-eq-TENTHS c = grew_as _ _ (yes _ _ _ _ (eq-eqb _ _ c.if-value_type-eq-TENTHS.true) refl) c.put_tenths.ensures
+returns-then-value_type-eq-TENTHS c = let bytes = ap (take 2) c.to_le_bytes.ensures ∙ rw c.word.ensures (pair_little c.args.t.0) in
+    c.append.ensures ∙ ap (λ (bytes : List ℕ). c.args.values.now ++ bytes) (yes _ _ _ _ (eq-eqb _ _ c.if-value_type-eq-TENTHS.true) bytes)
 
 pub returns : goal.returns
 unfolding temperature_in
-returns c = grew_as _ _ (no _ _ _ _ (ne_eqb _ _ c.if-value_type-eq-TENTHS.false) (ap (λ (h : Hundredths). little 4 h.0) c.of.ensures)) c.put_hundredths.ensures
+returns c = let bytes = c.to_le_bytes-2.ensures ∙ rw c.of.ensures (word_little (hundredths_of c.args.t).0) in
+    c.append-2.ensures ∙ ap (λ (bytes : List ℕ). c.args.values.now ++ bytes) (no _ _ _ _ (ne_eqb _ _ c.if-value_type-eq-TENTHS.false) bytes)

@@ -1,12 +1,7 @@
 -- `lucid::answer::store` meets its contract. Assumes nothing.
 use Rattle.lucid.specs.Answer.{stored}
 use Rattle.wire.proofs.Cases.{yes, no}
-use lib.ListN.{length-set}
-use native.Mathlib.Omega.{arith}
 use Rattle.lucid.proofs.answer.store.Goals as goal
-
-pub bounds-words-place-then-saved : goal.bounds-words-place-then-saved
-bounds-words-place-then-saved c = simp length-set (omega arith)
 
 pub returns-then-saved : goal.returns-then-saved
 unfolding stored

@@ -1,8 +1,6 @@
--- `lucid::frame::count` meets its contract: the bits of the channels added up. Assumes nothing.
-use Rattle.lucid.proofs.Channels.{count_channels}
-use mathlib.Core.Path.{sym}
-use native.Mathlib.Omega.{arith}
+-- `lucid::frame::count` meets its contract: the ones among the bits of the channels. Assumes nothing.
+use Rattle.lucid.proofs.Channels.{count_ones_channels}
 use Rattle.lucid.proofs.frame.count.Goals as goal
 
 pub returns : goal.returns
-returns c = (sym (count_channels c.args.mask), omega arith)
+returns c = count_ones_channels c.args.mask

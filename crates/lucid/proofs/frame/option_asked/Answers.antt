@@ -1,7 +1,5 @@
 -- `lucid::frame::option_asked` meets its contract, test by test. Assumes nothing.
-use Prim.Native.Nat.{ℕ, ◌+◌}
-use borrow.Author.Tests.{eq-eqb, ne_eqb}
-use mathlib.Core.Path.{sym, ap, ◌∙◌}
+use Rattle.std.proofs.Common.{eq-eqb, ne_eqb, sym, ◌∙◌}
 use Rattle.lucid.specs.Frame.{len_in}
 use Rattle.lucid.specs.Stages.{option_asked}
 use Rattle.wire.proofs.Cases.{yes, no, told_yes, told_no}
@@ -22,10 +20,6 @@ returns-then-not-option_right c = search (yes, no, told_yes, told_no) depth 12
 pub returns-then-f-len_for : goal.returns-then-f-len_for
 unfolding option_asked
 returns-then-f-len_for c = let wrong = ne_eqb (len_in c.args.f.now) _ (λ e. c.if-f-len_for.true (e ∙ sym c.len_for.ensures)) in search (yes, no, told_yes, told_no) depth 12
-
-pub command_asked-requires : goal.command_asked-requires
-command_asked-requires c = let s = c.requires in
-    record { known = s.0; channel = s.1.0; measured = s.1.1 ∙ ap (λ (n : ℕ). 4 + n) (c.if-f-len_for.false ∙ c.len_for.ensures) }
 
 pub returns : goal.returns
 unfolding option_asked

@@ -6,4 +6,4 @@ use Rattle.lucid_master.proofs.frames.put_addressed.Goals as goal
 pub returns : goal.returns
 unfolding little
 returns c = let a = c.args in
-    rw c.put_pair.ensures (wrote_put _ a.out.now c.put_head.ensures (little address_size a.request.address))
+    rw c.put_pair.ensures (wrote_put _ a.out.now c.put_head.ensures (little address_size a.address))

@@ -1,8 +1,5 @@
 -- `lucid_master::frames::put_set` meets its contract. Assumes nothing.
-use mathlib.Core.Path.{◌≡◌}
-use Prim.Native.Nat.{◌*◌}
-use native.Mathlib.Omega.{arith}
-use lib.ListN.{length}
+use Rattle.std.proofs.Common.{◌≡◌, ◌*◌, length, arith}
 use Rattle.card.proofs.Replies.{wrote_put}
 use Rattle.lucid.specs.Form.{demand_size}
 use Rattle.lucid_master.specs.Request.{demand_bytes}

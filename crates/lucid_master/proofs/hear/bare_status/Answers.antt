@@ -1,6 +1,5 @@
 -- `lucid_master::hear::bare_status` meets its contract, test by test. Assumes nothing.
-use mathlib.Core.Path.{refl, ◌∙◌}
-use borrow.Author.Tests.{eq-eqb, ne_eqb}
+use Rattle.std.proofs.Common.{refl, ◌∙◌, eq-eqb, ne_eqb}
 use Rattle.wire.proofs.Cases.{yes, no}
 use Rattle.lucid_master.specs.Stages.{bare_status}
 use Rattle.lucid_master.proofs.Values.{bare_test}

@@ -1,8 +1,5 @@
 -- `lucid_master::hear::hear` meets its contract, test by test. Assumes nothing.
-use mathlib.Core.Path.{refl, sym, ap, ◌∙◌}
-use mathlib.Core.List.{[], ◌∷◌}
-use Prim.Native.Nat.{ℕ}
-use borrow.Author.Tests.{eq-eqb, ne_eqb}
+use Rattle.std.proofs.Common.{refl, sym, ap, ◌∙◌, [], ◌∷◌, ℕ, eq-eqb, ne_eqb}
 use Rattle.wire.proofs.Cases.{yes, no, told_true, told_false}
 use Rattle.asking.specs.Hearing.Hearing.{Refused}
 use Rattle.lucid_master.specs.Heard.{heard}

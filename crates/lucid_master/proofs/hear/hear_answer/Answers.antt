@@ -1,11 +1,8 @@
 -- `lucid_master::hear::hear_answer` meets its contract, command by command. Assumes nothing.
-use native.Mathlib.Omega.{arith}
+use Rattle.std.proofs.Common.{arith}
 use Rattle.lucid.proofs.Frames.{place_within}
 use Rattle.lucid_master.specs.Heard.{heard_command}
 use Rattle.lucid_master.proofs.hear.hear_answer.Goals as goal
-
-pub place_of-place-requires : goal.place_of-place-requires
-place_of-place-requires c = c.requires.channel c.in-GetParam.is
 
 pub hear_parameter-requires : goal.hear_parameter-requires
 hear_parameter-requires c = let q = c.args.request in

@@ -1,5 +1,5 @@
 -- `lucid_master::hear::hear_done` meets its contract. Assumes nothing.
-use mathlib.Core.Path.{refl}
+use Rattle.std.proofs.Common.{refl}
 use Rattle.wire.proofs.Cases.{yes, no, told_true, told_false}
 use Rattle.lucid_master.specs.Heard.{heard_done}
 use Rattle.lucid_master.proofs.hear.hear_done.Goals as goal

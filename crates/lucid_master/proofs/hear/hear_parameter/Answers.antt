@@ -1,6 +1,5 @@
 -- `lucid_master::hear::hear_parameter` meets its contract, test by test. Assumes nothing.
-use mathlib.Core.Path.{refl}
-use native.Mathlib.Omega.{arith}
+use Rattle.std.proofs.Common.{refl, arith}
 use Rattle.wire.proofs.Cases.{yes, no, told_true, told_false}
 use Rattle.lucid.specs.Form.{parameter_size}
 use Rattle.lucid_master.specs.Heard.{heard_parameter}

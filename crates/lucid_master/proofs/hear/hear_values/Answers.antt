@@ -1,22 +1,12 @@
 -- `lucid_master::hear::hear_values` meets its contract. The invariant: the values so far are known, and those to come stand behind them. Assumes nothing.
-use mathlib.Core.Path.{refl}
-use Prim.{tt}
-use Prim.Native.Nat.{◌*◌}
-use native.Mathlib.Nat.{mul-le-mul, lt_of_le_of_lt}
-use native.Mathlib.Omega.{arith}
-use lib.Dec.{lit<}
+use Rattle.asking.specs.Hearing.Hearing.{Gives}
+use Rattle.std.proofs.Common.{refl, ap, ◌∙◌, ◌*◌}
 use Rattle.wire.proofs.Cases.{no, told_true, told_false}
 use Rattle.wire.proofs.Tests.{and_false_right}
 use Rattle.lucid.specs.Form.{size_of}
 use Rattle.lucid_master.specs.Heard.{shaped, heard_values}
-use Rattle.lucid_master.proofs.Values.{shaped_length, known_start, known_room, known_wrong, known_next, heard_all}
+use Rattle.lucid_master.proofs.Values.{shaped_length, known_start, known_wrong, known_next, heard_all}
 use Rattle.lucid_master.proofs.hear.hear_values.Goals as goal
-
-pub overflow_mul-size : goal.overflow_mul-size
-overflow_mul-size c = record { fits = lt_of_le_of_lt (mul-le-mul c.size-size.ensures.1 c.requires) (lit< tt) }
-
-pub is_shaped-requires : goal.is_shaped-requires
-is_shaped-requires c = lt_of_le_of_lt (mul-le-mul c.size-size.ensures.1 c.requires) (lit< tt)
 
 pub returns-then-not-is_shaped : goal.returns-then-not-is_shaped
 unfolding heard_values
@@ -27,11 +17,6 @@ loop-i-init c = let a = c.args in
     let long = shaped_length a.reply.now _ (told_true c.is_shaped.ensures c.if-not-is_shaped.false) in
     known_start a.value_type a.n a.reply.now _ refl (rw (← c.size-size.ensures.0) long)
 
-pub value_at-value-requires : goal.value_at-value-requires
-value_at-value-requires c = let l = c.loop-i in
-    let a = c.args in
-    known_room a.value_type a.n a.reply.now l.values l.at l.i c.loop-i-test.true l.invariant
-
 pub returns-then-not-is_answerable : goal.returns-then-not-is_answerable
 unfolding heard_values
 returns-then-not-is_answerable c = let l = c.loop-i in
@@ -39,15 +24,6 @@ returns-then-not-is_answerable c = let l = c.loop-i in
     let none = told_false c.is_answerable.ensures c.if-not-is_answerable.true in
     let wrong = known_wrong a.value_type a.n a.reply.now l.values l.at l.i c.loop-i-test.true _ c.value_at-value.ensures none l.invariant in
     no _ _ _ _ (rw wrong (and_false_right (shaped a.reply.now (size_of a.value_type * a.n)))) refl
-
-pub bounds-values-i : goal.bounds-values-i
-bounds-values-i c = omega (arith, c.loop-i.invariant.room)
-
-pub overflow_add-at : goal.overflow_add-at
-overflow_add-at c = let size = c.size-size.ensures.0 in
-    let l = c.loop-i in
-    let a = c.args in
-    omega (arith, known_room a.value_type a.n a.reply.now l.values l.at l.i c.loop-i-test.true l.invariant)
 
 pub loop-i-preserved : goal.loop-i-preserved
 loop-i-preserved c = let l = c.loop-i in
@@ -57,20 +33,8 @@ loop-i-preserved c = let l = c.loop-i in
     let next = known_next a.value_type a.n a.reply.now l.values l.at l.i c.loop-i-test.true _ value c.requires right l.invariant in
     rw c.size-size.ensures.0 next
 
-pub bounds-values-0 : goal.bounds-values-0
-bounds-values-0 c = omega (arith, c.loop-i.invariant.room)
-
-pub bounds-values-1 : goal.bounds-values-1
-bounds-values-1 c = omega (arith, c.loop-i.invariant.room)
-
-pub bounds-values-2 : goal.bounds-values-2
-bounds-values-2 c = omega (arith, c.loop-i.invariant.room)
-
-pub bounds-values-3 : goal.bounds-values-3
-bounds-values-3 c = omega (arith, c.loop-i.invariant.room)
-
 pub returns : goal.returns
 returns c = let l = c.loop-i in
     let a = c.args in
     let shape = told_true c.is_shaped.ensures c.if-not-is_shaped.false in
-    heard_all a.value_type a.n a.reply.now l.values l.at l.i c.loop-i-test.false (rw c.size-size.ensures.0 at shape) l.invariant
+    ap Gives c.new.ensures ∙ heard_all a.value_type a.n a.reply.now l.values l.at l.i c.loop-i-test.false (rw c.size-size.ensures.0 at shape) l.invariant

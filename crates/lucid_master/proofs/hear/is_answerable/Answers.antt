@@ -1,5 +1,5 @@
 -- `lucid_master::hear::is_answerable` meets its contract, type by type. Assumes nothing.
-use borrow.Author.Tests.{eq-eqb, ne_eqb}
+use Rattle.std.proofs.Common.{eq-eqb, ne_eqb}
 use Rattle.wire.proofs.Cases.{yes, no}
 use Rattle.lucid_master.specs.Heard.{answerable}
 use Rattle.lucid_master.proofs.hear.is_answerable.Goals as goal

@@ -1,5 +1,5 @@
 -- `lucid_master::hear::is_shaped` meets its contract. Assumes nothing.
-use borrow.Author.Tests.{eq-eqb, ne_eqb}
+use Rattle.std.proofs.Common.{eq-eqb, ne_eqb}
 use Rattle.lucid_master.specs.Heard.{shaped}
 use Rattle.lucid_master.proofs.hear.is_shaped.Goals as goal
 

@@ -1,14 +1,11 @@
--- `lucid_master::hear::short_word` meets its contract. Assumes nothing.
-use mathlib.Core.Path.{refl}
-use borrow.Author.Tests.{le-leb, lt-leb}
-use Rattle.wire.proofs.Cases.{yes, no}
+-- `lucid_master::hear::short_word` meets its contract, half by half. Assumes nothing.
+use Rattle.std.proofs.Common.{arith}
+use Rattle.std.proofs.lemmas.Bool.Decides.{nat_tests}
+use Rattle.std.proofs.lemmas.Int.{ints}
+use Rattle.wire.specs.Choose.{choose}
 use Rattle.lucid_master.specs.Heard.{word_of}
 use Rattle.lucid_master.proofs.hear.short_word.Goals as goal
 
-pub returns-then-n-ge-SHORT_HALF : goal.returns-then-n-ge-SHORT_HALF
-unfolding word_of
-returns-then-n-ge-SHORT_HALF c = yes _ _ _ _ (le-leb _ _ c.if-n-ge-SHORT_HALF.true) refl
-
 pub returns : goal.returns
-unfolding word_of
-returns c = no _ _ _ _ (lt-leb _ _ c.if-n-ge-SHORT_HALF.false) refl
+unfolding word_of choose
+returns c = grind (arith, nat_tests, ints)

@@ -1,6 +1,5 @@
 -- `lucid_master::hear::value_at` meets its contract, type by type. Assumes nothing.
-use mathlib.Core.Path.{sym, ap, ◌∙◌}
-use native.Mathlib.Omega.{arith}
+use Rattle.std.proofs.Common.{sym, ap, ◌∙◌, arith}
 use Rattle.lucid.specs.Form.{tenths}
 use Rattle.lucid_master.specs.Heard.{word_of}
 use Rattle.lucid_master.proofs.Values.{size_demand, size_tenths, size_other, word_demand, word_tenths, word_other}

@@ -1,5 +1,5 @@
 -- `lucid_master::request::is_askable` meets its contract, command by command. Assumes nothing.
-use mathlib.Core.Path.{sym}
+use Rattle.std.proofs.Common.{sym}
 use Rattle.lucid_master.proofs.Requests.{ask_get, ask_get_group, ask_set, ask_get_param, ask_reset}
 use Rattle.lucid_master.proofs.request.is_askable.Goals as goal
 

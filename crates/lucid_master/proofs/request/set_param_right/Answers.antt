@@ -1,9 +1,6 @@
 -- `lucid_master::request::set_param_right` meets its contract, test by test. Assumes nothing.
-use mathlib.Core.Path.{sym, ◌∙◌}
-use native.Mathlib.Omega.{arith}
-use borrow.Author.Tests.{eq-eqb, ne_eqb, ltb-true}
+use Rattle.std.proofs.Common.{sym, ◌∙◌, eq-eqb, ne_eqb}
 use Rattle.wire.proofs.Cases.{told_true, told_false}
-use Rattle.card.specs.Layout.{channels}
 use Rattle.lucid_master.proofs.Requests.{ask_set_param}
 use Rattle.lucid_master.proofs.request.set_param_right.Goals as goal
 
@@ -23,13 +20,6 @@ pub returns-then-values-ne1 : goal.returns-then-values-ne1
 returns-then-values-ne1 c = let channel = told_true c.channel_right.ensures c.if-not-channel_right.false in
     let known = told_true c.address_known.ensures c.if-not-address_known.false in
     sym (ask_set_param c.args.request c.args.values.now c.requires ∙ rw (channel, c.if-not-option.false, known, ne_eqb _ _ c.if-values-ne1.true))
-
-pub overflow_cast-channel : goal.overflow_cast-channel
-overflow_cast-channel c = let channel = told_true c.channel_right.ensures c.if-not-channel_right.false in
-    omega (arith, ltb-true c.args.request.p1 channels channel)
-
-pub place_of-place-requires : goal.place_of-place-requires
-place_of-place-requires c = ltb-true _ _ (told_true c.channel_right.ensures c.if-not-channel_right.false)
 
 pub returns : goal.returns
 returns c = let channel = told_true c.channel_right.ensures c.if-not-channel_right.false in

@@ -1,9 +1,5 @@
 -- `master::frame::acknowledge` meets its contract.
-use mathlib.Core.Path.{refl}
-use native.Mathlib.Omega.{arith}
-use lib.ListN.{length-set}
-use mathlib.Core.List.{[], ◌∷◌}
-use Prim.Native.Nat.{◌+◌}
+use Rattle.std.proofs.Common.{refl, arith, length-set, [], ◌∷◌, ◌+◌}
 use Rattle.wire.proofs.Buffers.{overlay_sets}
 use Rattle.master.proofs.frame.acknowledge.Goals as goal
 

@@ -2,4 +2,4 @@
 use Rattle.master.proofs.frame.write.Goals as goal
 
 pub returns : goal.returns
-returns c = c.write_frame.ensures
+returns c = rw c.place_in.ensures at c.write_frame.ensures

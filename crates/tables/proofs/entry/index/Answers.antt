@@ -1,5 +1,5 @@
 -- `tables::entry::index` meets its contract.
-use native.Mathlib.Omega.{arith}
+use Rattle.std.proofs.Common.{arith}
 use Rattle.wire.proofs.Cases.{cases}
 use Rattle.tables.specs.Entries.{index_of}
 use Rattle.tables.proofs.entry.index.Goals as goal

@@ -1,5 +1,5 @@
 -- `tables::entry::is_second` meets its contract.
-use mathlib.Core.Path.{refl}
+use Rattle.std.proofs.Common.{refl}
 use Rattle.tables.specs.Entries.{is_second}
 use Rattle.tables.proofs.Entries.{second_behind}
 use Rattle.tables.proofs.entry.is_second.Goals as goal

@@ -1,7 +1,6 @@
 -- `tables::entry::most` meets its contract.
-use mathlib.Core.Path.{sym, ◌∙◌}
+use Rattle.std.proofs.Common.{sym, ◌∙◌, rules}
 use Rattle.tables.proofs.Entries.{most_byte, most_row}
-use borrow.Author.Rules.{rules}
 use Rattle.tables.proofs.entry.most.Goals as goal
 
 pub returns-then-entry-lt-ROW_FROM : goal.returns-then-entry-lt-ROW_FROM

@@ -1,5 +1,5 @@
 -- `tables::entry::row_most` meets its contract.
-use mathlib.Core.Path.{sym}
+use Rattle.std.proofs.Common.{sym}
 use Rattle.tables.proofs.Entries.{row_two, row_byte}
 use Rattle.tables.proofs.entry.row_most.Goals as goal
 

@@ -1,7 +1,6 @@
 -- `lucid::form::Lucid::size` meets its contract, test by test. Assumes nothing.
 use Rattle.lucid.specs.Form.{size_of}
-use borrow.Author.Rules.{rules}
-use borrow.Author.Tests.{eq-eqb, ne_eqb}
+use Rattle.std.proofs.Common.{rules, eq-eqb, ne_eqb}
 use Rattle.wire.proofs.Cases.{yes, no}
 use Rattle.lucid.proofs.form.Lucid.size.Goals as goal
 

@@ -1,9 +1,0 @@
--- `bits::middle` meets its contract. Assumes nothing.
-use Rattle.std.proofs.Common.{arith, pow_pos}
-use Rattle.bits.proofs.middle.Goals as goal
-
-pub nonzero_rem-result : goal.nonzero_rem-result
-nonzero_rem-result c = omega (arith, c.weight.ensures, pow_pos c.args.width)
-
-pub returns : goal.returns
-returns c = rw c.weight.ensures

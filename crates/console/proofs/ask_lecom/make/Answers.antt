@@ -1,6 +1,0 @@
--- `console::ask_lecom::make` meets its contract. Assumes nothing.
-use Rattle.console.proofs.Answers.{made_fits}
-use Rattle.console.proofs.ask_lecom.make.Goals as goal
-
-pub returns : goal.returns
-returns c = made_fits c.make.ensures

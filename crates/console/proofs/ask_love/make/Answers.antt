@@ -1,6 +1,0 @@
--- `console::ask_love::make` meets its contract. Assumes nothing.
-use Rattle.console.proofs.Answers.{made_fits}
-use Rattle.console.proofs.ask_love.make.Goals as goal
-
-pub returns : goal.returns
-returns c = made_fits c.make.ensures

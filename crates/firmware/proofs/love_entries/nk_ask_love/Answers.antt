@@ -1,6 +1,0 @@
--- `firmware::love_entries::nk_ask_love` meets its contract. Assumes nothing.
-use Rattle.firmware.proofs.Handing.{told_handed}
-use Rattle.firmware.proofs.love_entries.nk_ask_love.Goals as goal
-
-pub returns : goal.returns
-returns c = rw (← c.task_of.ensures) (told_handed c.make-given.ensures c.hand_over.ensures)

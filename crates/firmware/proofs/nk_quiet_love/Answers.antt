@@ -1,5 +1,0 @@
--- `firmware::nk_quiet_love` meets its contract: it is that of the entry below. Assumes nothing.
-use Rattle.firmware.proofs.nk_quiet_love.Goals as goal
-
-pub returns : goal.returns
-returns c = c.quiet.ensures

@@ -1,0 +1,9 @@
+-- `lines::text::Text::tell` meets its contract.
+use Rattle.std.proofs.Common.{arith, rules}
+use Rattle.lines.specs.Text.{told}
+use Rattle.lines.proofs.Puts.{put_anew, put_then, put_within}
+use Rattle.lines.proofs.text.Text.tell.Goals as goal
+
+pub returns : goal.returns
+unfolding told
+returns g c = put_within (omega arith) (put_anew c.clear.ensures.len c.clear.ensures.out (put_then (search rules) c.put_number.ensures c.put_bytes.ensures))

@@ -1,8 +1,0 @@
--- `lucid::form::Lucid::fits` meets its contract. Assumes nothing.
-use mathlib.Core.Path.{refl}
-use Rattle.wire.specs.Length.{between}
-use Rattle.lucid.proofs.form.Lucid.fits.Goals as goal
-
-pub returns : goal.returns
-unfolding between
-returns c = refl
