@@ -1,6 +1,4 @@
 // Love's master: what `ask` asks of it, and what `reply` hears.
-ghost use Rattle.std.specs.Prelude.{◌≤◌, length};
-
 use crate::master_calls::Asks;
 use asking::{Heard, Unread};
 use card::Outcome;

@@ -33,13 +33,6 @@ pub struct Input {
     ghost short: { come n ≤ line_most },
 }
 
-// Bytes join a line of which n have come. A line that is too long stays so.
-fn join(text: &mut [u8; LINE_MOST], n: Option<usize>, bytes: &[u8]) -> Option<usize>
-    ensures { come result ≤ line_most }
-{
-    line::join(text, n?, bytes)
-}
-
 impl Input {
     // Nothing read yet.
     pub fn new() -> Input
@@ -69,11 +62,13 @@ impl Input {
         self.at < self.end
     }
 
-    // Takes what is left in the buffer to the line, up to a line feed.
+    // Takes what is left in the buffer to the line, up to a line feed. A line that is too long stays so.
     fn take(&mut self) {
         let left = &self.buffer[..self.end];
         let stop = line::scan(left, self.at, |b| b == LINE_FEED);
-        self.n = join(&mut self.text, self.n, &left[self.at..stop]);
+        if let Some(n) = self.n {
+            self.n = line::join(&mut self.text, n, &left[self.at..stop]);
+        }
         if stop < self.end {
             self.at = stop + 1;
             self.came = Came::Line;

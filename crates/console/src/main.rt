@@ -22,16 +22,14 @@ use reply::{Console, End};
 use std::io::Stderr;
 
 // Says on standard error what went wrong: the console script ends with another status than 0 just where something is said there.
-fn report(stderr: Stderr, end: End) -> bool {
-    match end {
-        End::Over => true,
-        End::NotRead => stderr
-            .write_all(b"console: the input could not be read\n")
-            .is_ok(),
-        End::NotWritten => stderr
-            .write_all(b"console: an answer could not be written\n")
-            .is_ok(),
-    }
+// Where that too cannot be written, nothing is left to say.
+fn report(stderr: Stderr, end: End) {
+    let words: &[u8] = match end {
+        End::Over => return,
+        End::NotRead => b"console: the input could not be read\n",
+        End::NotWritten => b"console: an answer could not be written\n",
+    };
+    let _ = stderr.write_all(words);
 }
 
 // Goes on while there is input and answers can be written. Nothing says that the input ends, so the loop counts its turns, to a number

@@ -3,6 +3,7 @@ ghost use Rattle.std.specs.Prelude.{◌≡◌, false, ◌≤◌, take};
 ghost use Rattle.lines.specs.Lent.{answer_most};
 ghost use Rattle.console.specs.Holding.{Followed};
 
+use crate::reply::End;
 use lines::text::Text;
 use lines::{ANSWER_MOST, Answer};
 use std::io::Stdout;
@@ -21,15 +22,15 @@ pub fn hold(held: &mut Held, answer: &Answer)
     held.put_words(b"\n");
 }
 
-// Writes what is held, if no input is left to take or the next answer might not fit: whether that could be done.
-pub fn settle(held: &mut Held, stdout: Stdout, left: bool) -> bool
+// Writes what is held, if no input is left to take or the next answer might not fit.
+pub fn settle(held: &mut Held, stdout: Stdout, left: bool) -> Result<(), End>
     ensures room { held.new.len ≤ answer_most }
     ensures told { left ≡ false → held.new.len ≡ 0 }
 {
     if left && held.len <= ANSWER_MOST {
-        return true;
+        return Ok(());
     }
-    let written = stdout.write_all(held.text()).is_ok();
+    let written = stdout.write_all(held.text());
     held.clear();
-    written
+    written.map_err(|_| End::NotWritten)
 }

@@ -142,9 +142,7 @@ impl Console {
             );
         }
         let left = self.input.is_left();
-        if !output::settle(&mut self.held, stdout, left) {
-            return Err(End::NotWritten);
-        }
+        output::settle(&mut self.held, stdout, left)?;
         match self.input.came {
             Came::Failed => Err(End::NotRead),
             Came::Last => Err(End::Over),

@@ -3,11 +3,8 @@ ghost use Rattle.std.specs.Prelude.{◌≡◌, replicate};
 ghost use Rattle.card.specs.Layout.{card_of, word_count, memory_size};
 ghost use Rattle.card.specs.Start.{start_words, start_memory, start_card};
 
-use card::fitness::{CYCLE_DEFAULT, DEMAND_MOST};
-use card::layout::{
-    DEMANDS, IA, LECOM_ADDRESS, LOVE_ADDRESS, MEMORY, PARAMETERS, PARAMETERS_EACH, ROW,
-    SAVED_PARAMETERS, WORDS,
-};
+use card::fitness::{CYCLE_DEFAULT, DEMAND_MOST, FLOOR_DEFAULT};
+use card::layout::{BUFFER, CHANNELS, MEMORY, ROW, WORDS};
 use card::probe::FAULT_CODE;
 use tables::Tables;
 
@@ -18,45 +15,43 @@ const START_LECOM: u32 = 11;
 
 const START_LOVE: u32 = 0x32;
 
-// The demands of the other channels, and their parameter 1110h with its saved copy.
-const SECOND_DEMAND: usize = DEMANDS + 1;
+// The words before the registers, in the order of the layout.
+const START_WORDS: [u32; BUFFER] = [
+    START_IA,
+    START_LECOM,
+    START_LOVE,
+    0,
+    0,
+    0,
+    0,
+    DEMAND_MOST,
+    DEMAND_MOST,
+    DEMAND_MOST,
+    DEMAND_MOST,
+    CYCLE_DEFAULT,
+    FLOOR_DEFAULT,
+    CYCLE_DEFAULT,
+    FLOOR_DEFAULT,
+    CYCLE_DEFAULT,
+    FLOOR_DEFAULT,
+    CYCLE_DEFAULT,
+    FLOOR_DEFAULT,
+    CYCLE_DEFAULT,
+    FLOOR_DEFAULT,
+    CYCLE_DEFAULT,
+    FLOOR_DEFAULT,
+    CYCLE_DEFAULT,
+    FLOOR_DEFAULT,
+    CYCLE_DEFAULT,
+    FLOOR_DEFAULT,
+];
 
-const THIRD_DEMAND: usize = DEMANDS + 2;
-
-const FOURTH_DEMAND: usize = DEMANDS + 3;
-
-const SECOND_CYCLE: usize = PARAMETERS + PARAMETERS_EACH;
-
-const THIRD_CYCLE: usize = SECOND_CYCLE + PARAMETERS_EACH;
-
-const FOURTH_CYCLE: usize = THIRD_CYCLE + PARAMETERS_EACH;
-
-const SECOND_SAVED: usize = SAVED_PARAMETERS + PARAMETERS_EACH;
-
-const THIRD_SAVED: usize = SECOND_SAVED + PARAMETERS_EACH;
-
-const FOURTH_SAVED: usize = THIRD_SAVED + PARAMETERS_EACH;
-
-// The words, from zeros. Store by store, as the memory below: with `fill` and a `for` over the channels what it ensures found no proof.
+// The words, from zeros.
 fn start_words(words: &mut [u32])
     requires { words.old ≡ replicate word_count 0 }
     ensures { words.new ≡ start_words }
 {
-    words[IA] = START_IA;
-    words[LECOM_ADDRESS] = START_LECOM;
-    words[LOVE_ADDRESS] = START_LOVE;
-    words[DEMANDS] = DEMAND_MOST;
-    words[SECOND_DEMAND] = DEMAND_MOST;
-    words[THIRD_DEMAND] = DEMAND_MOST;
-    words[FOURTH_DEMAND] = DEMAND_MOST;
-    words[PARAMETERS] = CYCLE_DEFAULT;
-    words[SECOND_CYCLE] = CYCLE_DEFAULT;
-    words[THIRD_CYCLE] = CYCLE_DEFAULT;
-    words[FOURTH_CYCLE] = CYCLE_DEFAULT;
-    words[SAVED_PARAMETERS] = CYCLE_DEFAULT;
-    words[SECOND_SAVED] = CYCLE_DEFAULT;
-    words[THIRD_SAVED] = CYCLE_DEFAULT;
-    words[FOURTH_SAVED] = CYCLE_DEFAULT;
+    words[..BUFFER].copy_from_slice(&START_WORDS);
 }
 
 // Memory, from zeros: no probe read yet.
@@ -64,10 +59,7 @@ fn start_memory(memory: &mut [u8])
     requires { memory.old ≡ replicate memory_size 0 }
     ensures { memory.new ≡ start_memory }
 {
-    memory[0] = FAULT_CODE;
-    memory[1] = FAULT_CODE;
-    memory[2] = FAULT_CODE;
-    memory[3] = FAULT_CODE;
+    memory[..CHANNELS].fill(FAULT_CODE);
 }
 
 // The tables.

@@ -1,3 +1,4 @@
+pub mod Commands
 pub mod Frames
 pub mod Writes
 pub mod Laws

@@ -38,6 +38,7 @@ fn pend(ports: &mut [u8], kind: u8, body: &[u8])
 }
 
 // Byte i of a change: the byte sent, or (old AND mask) OR state.
+// The kind is asked of each byte: specs/Answer.antt states the byte of both kinds at once, and a `copy_from_slice` would need a second law.
 fn new_byte(kind: u8, old: u8, sent: &[u8], i: usize) -> u8
     requires { (i < length sent.now) × (kind ≡ change_bits → i + i + 1 < length sent.now) }
     ensures { result ≡ new_byte kind old sent.now i }

@@ -2,19 +2,30 @@
 ghost use Rattle.std.specs.Prelude.{◌≡◌, ◌<◌, length};
 ghost use Rattle.datalink.specs.Form.{frame_num_at};
 ghost use Rattle.datalink.specs.Receiver.{step, held};
-ghost use Rattle.datalink.specs.Stages.{size_of, second_place, goes_on, held_with_num};
+ghost use Rattle.datalink.specs.Frame.{kind_of};
+ghost use Rattle.datalink.specs.Stages.{command_of, size_of, second_place, goes_on, held_with_num};
 
 use crate::form::Datalink;
-use crate::frame::{command_known, command_of, data_carried, kind_of};
+use crate::frame::{Command, command_of, data_carried};
+use card::change::NO_CHANGE;
 use card::layout::DATA_MOST;
 use receiver::{Collect, Frames, Place};
+
+// The kind of change that a second byte asks for: none where it is no command's.
+fn kind(second: u8) -> u8
+    ensures { result ≡ kind_of (command_of second) }
+{
+    match Command::try_from(command_of(second)) {
+        Ok(command) => command.kind(),
+        Err(_) => NO_CHANGE,
+    }
+}
 
 // The size of a frame with this second byte and NUM.
 fn size(second: u8, num: u8) -> usize
     ensures { result ≡ size_of second num }
 {
-    let kind = kind_of(command_of(second));
-    let data = data_carried(kind, num);
+    let data = data_carried(kind(second), num);
     Datalink::BARE + data as usize
 }
 
@@ -22,23 +33,21 @@ fn size(second: u8, num: u8) -> usize
 fn second_place(b: u8) -> Place
     ensures { result ≡ second_place b }
 {
-    let command = command_of(b);
-    if !command_known(command) {
-        return Place::Nowhere;
+    match Command::try_from(command_of(b)) {
+        Ok(command) if command.is_acknowledge() => Place::Last,
+        Ok(_) => Place::Behind,
+        Err(_) => Place::Nowhere,
     }
-    if command == Datalink::ACKNOWLEDGE {
-        return Place::Last;
-    }
-    Place::Behind
 }
 
 // Whether a second byte is that of a frame with NUM.
 fn goes_on(second: u8) -> bool
     ensures { result ≡ goes_on second }
 {
-    let command = command_of(second);
-    let known = command_known(command);
-    known & (command != Datalink::ACKNOWLEDGE)
+    match Command::try_from(command_of(second)) {
+        Ok(command) => !command.is_acknowledge(),
+        Err(_) => false,
+    }
 }
 
 // Whether bytes with NUM among them are a part frame.

@@ -1,7 +1,8 @@
 // What a Datalink frame asks.
-ghost use Rattle.std.specs.Prelude.{◌≡◌, ◌≤◌, true, length};
-ghost use Rattle.datalink.specs.Form.{shortest};
-ghost use Rattle.datalink.specs.Frame.{ia_in, command_in, kind_of, command_known, carried, form_right, lrc_right, asked};
+ghost use Rattle.std.specs.Prelude.{◌≡◌, ◌==◌, ◌≤◌, true, length};
+ghost use Rattle.datalink.specs.Form.{shortest, acknowledge_bits};
+ghost use Rattle.datalink.specs.Command.{bits_of, Commands};
+ghost use Rattle.datalink.specs.Frame.{ia_in, command_in, kind_of, carried, form_right, lrc_right, asked};
 ghost use Rattle.datalink.specs.Stages.{command_of, order_in, order_at, order_here};
 
 use crate::form::Datalink;
@@ -27,6 +28,50 @@ pub enum Order {
 #[derive(Clone, Copy)]
 pub struct Silent(pub u8);
 
+// What the command bits of a second byte command.
+#[derive(Clone, Copy)]
+pub enum Command {
+    Interrogate,
+    Change,
+    ChangeBits,
+    Acknowledge,
+}
+
+impl TryFrom<u8> for Command {
+    type Error = Silent;
+
+    ghost try_from_gives = { Commands };
+
+    fn try_from(bits: u8) -> Result<Self, Silent> {
+        match bits {
+            Datalink::INTERROGATE => Ok(Command::Interrogate),
+            Datalink::CHANGE => Ok(Command::Change),
+            Datalink::CHANGE_BITS => Ok(Command::ChangeBits),
+            Datalink::ACKNOWLEDGE => Ok(Command::Acknowledge),
+            _ => Err(Silent(COMMAND_UNKNOWN)),
+        }
+    }
+}
+
+impl Command {
+    pub(crate) fn is_acknowledge(self) -> bool
+        ensures { result ≡ (bits_of self == acknowledge_bits) }
+    {
+        matches!(self, Command::Acknowledge)
+    }
+
+    // The kind of change that it asks for.
+    pub(crate) fn kind(self) -> u8
+        ensures { result ≡ kind_of (bits_of self) }
+    {
+        match self {
+            Command::Change => CHANGE,
+            Command::ChangeBits => CHANGE_BITS,
+            Command::Interrogate | Command::Acknowledge => NO_CHANGE,
+        }
+    }
+}
+
 // The I.A. of a frame. By %, as the command bits below by / and *: specs/Frame.antt states both so.
 fn ia_in(f: &[u8]) -> u32
     requires { shortest ≤ length f.now }
@@ -50,30 +95,6 @@ fn command_in(f: &[u8]) -> u8
     command_of(f[Datalink::SECOND])
 }
 
-// Whether a command is one of the four.
-pub(crate) fn command_known(command: u8) -> bool
-    ensures { result ≡ command_known command }
-{
-    if command == Datalink::ACKNOWLEDGE {
-        return true;
-    }
-    (command == Datalink::INTERROGATE)
-        | ((command == Datalink::CHANGE) | (command == Datalink::CHANGE_BITS))
-}
-
-// The kind of change that a command asks for.
-pub(crate) fn kind_of(command: u8) -> u8
-    ensures { result ≡ kind_of command }
-{
-    if command == Datalink::CHANGE {
-        return CHANGE;
-    }
-    if command == Datalink::CHANGE_BITS {
-        return CHANGE_BITS;
-    }
-    NO_CHANGE
-}
-
 // How many data bytes a frame of NUM carries.
 pub(crate) fn data_carried(kind: u8, num: u8) -> u8
     ensures { result ≡ carried kind num }
@@ -85,17 +106,17 @@ pub(crate) fn data_carried(kind: u8, num: u8) -> u8
 }
 
 // Length and NUM of a frame of this command. The command stands beside its frame, here and below: a struct of both would be a type more.
-fn form_right(command: u8, f: &[u8]) -> bool
-    requires { command ≡ command_in f.now }
+fn form_right(command: Command, f: &[u8]) -> bool
+    requires { bits_of command ≡ command_in f.now }
     ensures { result ≡ form_right f.now }
 {
-    if command == Datalink::ACKNOWLEDGE {
+    if command.is_acknowledge() {
         return f.len() == Datalink::ACKNOWLEDGE_SIZE;
     }
     if f.len() < Datalink::BARE {
         return false;
     }
-    let kind = kind_of(command);
+    let kind = command.kind();
     let num = f[Datalink::NUM];
     let data = data_carried(kind, num);
     let right = change::num_right(kind, num);
@@ -103,13 +124,13 @@ fn form_right(command: u8, f: &[u8]) -> bool
 }
 
 // The LRC of a frame of this command.
-fn lrc_right(command: u8, f: &[u8]) -> bool
-    requires { (shortest ≤ length f.now) × (command ≡ command_in f.now) }
+fn lrc_right(command: Command, f: &[u8]) -> bool
+    requires { (shortest ≤ length f.now) × (bits_of command ≡ command_in f.now) }
     ensures { result ≡ lrc_right f.now }
 {
     let last = f.len() - 1;
     let sum = wire::sum(&f[Datalink::SECOND..last]);
-    (command == Datalink::ACKNOWLEDGE) | (sum == f[last])
+    command.is_acknowledge() | (sum == f[last])
 }
 
 // A frame of this kind, NUM and address: range, read-only for a change, and what it asks.
@@ -130,26 +151,24 @@ fn order_at(kind: u8, num: u8, at: u16) -> Result<Order, Silent>
 }
 
 // A frame of this command whose form and LRC are right.
-fn order_in(command: u8, f: &[u8]) -> Result<Order, Silent>
-    requires { (command ≡ command_in f.now) × (form_right f.now ≡ true) }
+fn order_in(command: Command, f: &[u8]) -> Result<Order, Silent>
+    requires { (bits_of command ≡ command_in f.now) × (form_right f.now ≡ true) }
     ensures { result ≡ order_in f.now }
 {
-    if command == Datalink::ACKNOWLEDGE {
+    if command.is_acknowledge() {
         return Ok(Order::Acknowledge);
     }
-    let kind = kind_of(command);
+    let kind = command.kind();
     let at = change::two_bytes(f[Datalink::LOW_ADDRESS], f[Datalink::HIGH_ADDRESS]);
     order_at(kind, f[Datalink::NUM], at)
 }
 
-// A frame of this command to this unit: command, length and NUM, LRC.
-fn order_here(command: u8, f: &[u8]) -> Result<Order, Silent>
-    requires { (shortest ≤ length f.now) × (command ≡ command_in f.now) }
+// A frame to this unit: command, length and NUM, LRC.
+fn order_here(f: &[u8]) -> Result<Order, Silent>
+    requires { shortest ≤ length f.now }
     ensures { result ≡ order_here f.now }
 {
-    if !command_known(command) {
-        return Err(Silent(COMMAND_UNKNOWN));
-    }
+    let command = Command::try_from(command_in(f))?;
     if !form_right(command, f) {
         return Err(Silent(FRAME_FORM));
     }
@@ -172,5 +191,5 @@ pub fn order_of(ia: u32, f: &[u8]) -> Result<Order, Silent>
     if ia_in(f) != ia {
         return Err(Silent(FOREIGN_ADDRESS));
     }
-    order_here(command_in(f), f)
+    order_here(f)
 }

@@ -1,5 +1,5 @@
 -- What is known of a frame: bounds of its places, and that what it asks is sound. Assumes nothing.
-use Rattle.std.proofs.Common.{Option, Some, None, Result, Ok, Err, ◌≡◌, ℕ, suc, ◌+◌, ◌<◌, ◌≤◌, Bool, true, false, ◌&&◌, eqb, ltb, leb, List, [], ◌∷◌, length, get_or, drop, bit_xor, refl, arith, drop-cons, ltb-true, eqb-true, leb-true}
+use Rattle.std.proofs.Common.{Option, Some, None, Result, Ok, Err, ◌≡◌, ℕ, ◌+◌, ◌<◌, ◌≤◌, Bool, true, false, ◌&&◌, eqb, ltb, leb, List, [], ◌∷◌, ◌++◌, length, bit_xor, refl, arith, ltb-true, eqb-true, leb-true}
 use Prim.{tt}
 use Rattle.wire.specs.Choose.{choose}
 use Rattle.wire.specs.Word.{minus}
@@ -91,9 +91,10 @@ figures_small (a ∷ b ∷ c ∷ r) l h =
     (ltb-true (figure_of b) decimal x.0, ltb-true (figure_of c) decimal y.0)
 
 -- one byte more of a block check character
-pub xor_next : (x : ℕ) (s : List ℕ) (i : ℕ) → suc i ≤ length s → xor_from x (drop i s) ≡ xor_from (bit_xor x (get_or s i 0)) (drop (suc i) s)
+pub xor_push : (x : ℕ) (s : List ℕ) (b : ℕ) → xor_from x (s ++ (b ∷ [])) ≡ bit_xor (xor_from x s) b
 unfolding xor_from
-xor_next x s i h = rw (drop-cons s i 0 h)
+xor_push x [] b = refl
+xor_push x (a ∷ s) b = xor_push (bit_xor x a) s b
 
 -- What is named
 

@@ -137,8 +137,7 @@ fn read(words: &[u32], memory: &[u8], f: Frame, out: &mut [u8], named: Named) ->
     match named {
         Named::Register(k) => tell(f, out, words[OPERATIONAL + k as usize]),
         Named::Probe(channel) => read_probe(f, out, memory[channel as usize]),
-        Named::Activate => tell(f, out, 0),
-        Named::Store => tell(f, out, 0),
+        Named::Activate | Named::Store => tell(f, out, 0),
     }
 }
 

@@ -79,19 +79,13 @@ pub enum Named {
 pub fn named_by(code: u32) -> Option<Named>
     ensures { result ≡ named_by code }
 {
-    if code <= Lecom::LAST_REGISTER {
-        return Some(Named::Register(code));
+    match code {
+        0..=Lecom::LAST_REGISTER => Some(Named::Register(code)),
+        Lecom::FIRST_PROBE..=Lecom::LAST_PROBE => Some(Named::Probe(code - Lecom::FIRST_PROBE)),
+        Lecom::ACTIVATE => Some(Named::Activate),
+        Lecom::STORE => Some(Named::Store),
+        _ => None,
     }
-    if (Lecom::FIRST_PROBE <= code) & (code <= Lecom::LAST_PROBE) {
-        return Some(Named::Probe(code - Lecom::FIRST_PROBE));
-    }
-    if code == Lecom::ACTIVATE {
-        return Some(Named::Activate);
-    }
-    if code == Lecom::STORE {
-        return Some(Named::Store);
-    }
-    None
 }
 
 impl Named {

@@ -1,6 +1,5 @@
 // What a LECOM frame asks.
 ghost use Rattle.std.specs.Prelude.{◌≡◌, true, ◌&&◌, ◌+◌, ◌≤◌, length, Some, Ok};
-ghost use Rattle.wire.specs.Choose.{choose};
 ghost use Rattle.wire.specs.Buffer.{put, part};
 ghost use Rattle.figures.specs.Figure.{byte_or_none};
 ghost use Rattle.figures.specs.Signed.{longest_text};
@@ -12,15 +11,12 @@ ghost use Rattle.lecom.specs.Stages.{Outlines, code_read, order_here};
 
 use crate::form;
 use crate::form::{Lecom, Named};
-use card::fitness::REGISTER_MOST;
+use card::fitness::{FIGURE_VALUES, REGISTER_MOST};
 use card::numbers::{
     CHECK_CHARACTER, FOREIGN_ADDRESS, FRAME_FORM, RANGE_UNKNOWN, READ_ONLY, VALUE_OUTSIDE,
 };
 use figures::sheet::Sheet;
 use figures::{DECIMAL, UPPER_HEX};
-
-// What an address's first figure counts.
-const TEN: u32 = DECIMAL as u32;
 
 // What a frame asks: the value of what is named, or a value for it.
 #[derive(Clone, Copy)]
@@ -37,7 +33,7 @@ pub enum Refusal {
 }
 
 // What judge and answer need of a frame: whether its address is collective, whether it is a write, whether its code is extended, and where the
-// code and its hex characters begin and end. Each flag is one test of the frame, told by a field of `Outlines` (collective_by_tens).
+// code and its hex characters begin and end. Each flag is one test of the frame, told by a field of `Outlines`.
 #[derive(Clone, Copy)]
 pub struct Outline {
     pub collective: bool,
@@ -61,12 +57,7 @@ pub struct Frame<'a> {
 pub fn bcc(s: &[u8]) -> u8
     ensures { result ≡ bcc_of s.now }
 {
-    // A loop, no fold: its wrong programs (bcc_from_ff, bcc_by_or) are told apart by where the loop begins and how it goes on.
-    let mut x: u8 = 0;
-    for &b in s {
-        x = x ^ b;
-    }
-    x
+    s.iter().fold(0, |x, &b| x ^ b)
 }
 
 // Writes what comes behind a code that stands from at to text: the shortest decimal, ETX and the BCC.
@@ -77,19 +68,8 @@ pub fn put_data(out: &mut [u8], at: usize, text: usize, value: u32) -> usize
     let end = text + figures::put_text(out, text, value);
     out[end] = Lecom::ETX;
     let last = end + 1;
-    let check = bcc(&out[at..last]);
-    out[last] = check;
+    out[last] = bcc(&out[at..last]);
     last + 1
-}
-
-// One of two places, by a test. A function: three choices written out as `if` take a dozen lines, and this takes three.
-fn pick(test: bool, a: usize, b: usize) -> usize
-    ensures { result ≡ choose test a b }
-{
-    if test {
-        return a;
-    }
-    b
 }
 
 // The outline of a frame that is not too short.
@@ -98,14 +78,15 @@ fn outline_of(sheet: &Sheet, f: &[u8]) -> Outline
     ensures { Outlines f.now result }
 {
     let write = f[Lecom::START] == Lecom::STX;
-    let start = pick(write, Lecom::START + 1, Lecom::START);
+    // A write's code begins behind its STX, and an extended code's hex characters behind the mark.
+    let start = Lecom::START + write as usize;
     let extended = f[start] == Lecom::EXTENDED;
-    let hex = pick(extended, start + 1, start);
-    let end = pick(
-        extended,
-        hex + Lecom::EXTENDED_HEX,
-        hex + Lecom::STANDARD_HEX,
-    );
+    let hex = start + extended as usize;
+    let size = if extended {
+        Lecom::EXTENDED_HEX
+    } else {
+        Lecom::STANDARD_HEX
+    };
     let collective = sheet.figure(f[Lecom::ONES]) == 0;
     Outline {
         collective,
@@ -113,7 +94,7 @@ fn outline_of(sheet: &Sheet, f: &[u8]) -> Outline
         extended,
         start,
         hex,
-        end,
+        end: hex + size,
     }
 }
 
@@ -157,10 +138,10 @@ impl<'a> Frame<'a> {
     {
         let tens = sheet.figure(self.bytes[Lecom::TENS]) as u32;
         if self.outline.collective {
-            return (tens == 0) | (tens == address / TEN);
+            return (tens == 0) | (tens == address / FIGURE_VALUES);
         }
         let ones = sheet.figure(self.bytes[Lecom::ONES]) as u32;
-        TEN * tens + ones == address
+        FIGURE_VALUES * tens + ones == address
     }
 
     // Whether a frame has its form's length, and ENQ last or ETX last but one. The two ways test in different orders: else the compiler joins them.

@@ -44,8 +44,7 @@ fn is_answerable(named: Named, value: u32) -> bool
     match named {
         Named::Register(_) => true,
         Named::Probe(_) => asking::is_temperature(1, value),
-        Named::Activate => value == 0,
-        Named::Store => value == 0,
+        Named::Activate | Named::Store => value == 0,
     }
 }
 

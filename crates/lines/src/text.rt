@@ -10,7 +10,7 @@ ghost use Rattle.lines.specs.Text.{Put, spaced, told, told_most, entry_of, eight
 use card::governor::Governor;
 use card::numbers::{ANSWERED, PROBE_FAULT};
 
-pub const SPACE: u8 = b' ';
+pub(crate) const SPACE: u8 = b' ';
 
 // A byte's characters: two figures, and a space before them.
 const PAIR: usize = 2;

@@ -4,12 +4,11 @@ use Rattle.std.specs.Option.{option_eq}
 use Rattle.std.proofs.lemmas.Result.{err_from_is_err_and}
 use Rattle.wire.specs.Choose.{choose}
 use Rattle.figures.specs.Figure.{no_byte, byte_or_none}
-use Rattle.love.specs.declared.frame.Refusal.{Refusal}
 
-pub handed_on : {T U : Type 0} (o : Option T) (e d : Refusal) (r : Result U Refusal) → o ≡ None → ◌≡◌ {A = Result T Refusal} (Err d) (ok_or o e) → IsErrAnd r (λ (x : Refusal). x ≡ d) → r ≡ Err e
-handed_on {T} o e d r none given out =
+pub handed_on : {T U E : Type 0} (o : Option T) (e d : E) (r : Result U E) → o ≡ None → ◌≡◌ {A = Result T E} (Err d) (ok_or o e) → IsErrAnd r (λ (x : E). x ≡ d) → r ≡ Err e
+handed_on {T} {E = E} o e d r none given out =
     let p = err_from_is_err_and r out in
-    let same : ◌≡◌ {A = Result T Refusal} (Err d) (Err e) = given ∙ ap (λ (x : Option T). ok_or x e) none in
+    let same : ◌≡◌ {A = Result T E} (Err d) (Err e) = given ∙ ap (λ (x : Option T). ok_or x e) none in
     cc
 
 -- a value that is given where a test holds

@@ -10,4 +10,4 @@ pub mod Probes
 pub mod Receiver
 pub mod Wholes
 pub mod Computed
-mod Exits
+pub mod Exits

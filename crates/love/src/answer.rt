@@ -3,8 +3,8 @@ ghost use Rattle.std.specs.Prelude.{◌≡◌, [], ◌∷◌, ◌++◌, ◌≤�
 ghost use Rattle.wire.specs.Buffer.{put, part};
 ghost use Rattle.wire.specs.Sum.{sum_of};
 ghost use Rattle.figures.specs.Figure.{pair_of};
+ghost use Rattle.card.specs.Numbers.{answered};
 ghost use Rattle.card.specs.Layout.{love_at, love_count, word_count, memory_size};
-ghost use Rattle.card.specs.Fitness.{love_address_most};
 ghost use Rattle.card.specs.Probe.{reading_of};
 ghost use Rattle.card.specs.Reply.{Wrote, GaveWords, room_least};
 ghost use Rattle.love.specs.Form.{stx, ack, filter_at, data_at, tail};
@@ -14,8 +14,7 @@ ghost use Rattle.love.specs.Answer.{unit_of, error_reply, normal_reply, written_
 use crate::form::{Address, Love};
 use crate::frame::{Order, Refusal};
 use card::Outcome;
-use card::fitness::LOVE_HUNDRED;
-use card::layout::{LOVE, LOVE_ADDRESS};
+use card::layout::LOVE;
 use card::numbers::ANSWERED;
 use card::probe::{Reading, read_code};
 use figures::ZERO;
@@ -29,7 +28,7 @@ const WRITTEN: u8 = 0x00;
 // The signs of a read.
 const POSITIVE: u8 = 0x00;
 
-const NEGATIVE: u8 = 0x01;
+pub const NEGATIVE: u8 = 0x01;
 
 // How many figures a number has in a reply.
 pub const FIGURES: usize = 4;
@@ -44,14 +43,14 @@ pub const FAULT: u8 = b'D';
 
 pub const BELOW_ZERO: u8 = b'2';
 
-// Writes what begins every reply, and every frame: STX, filter and address. The cast loses nothing: the remainder fits a byte.
+// Writes what begins every reply, and every frame: STX, filter and address.
 pub fn put_unit(out: &mut [u8], address: Address)
     requires { data_at ≤ length out.old }
     ensures { Wrote (stx ∷ unit_of address.value) out.old data_at out.new }
 {
     out[0] = Love::STX;
-    out[Love::FILTER] = Love::filter(address);
-    figures::put_pair(out, Love::ADDRESS, (address.value % LOVE_HUNDRED) as u8);
+    out[Love::FILTER] = address.filter();
+    figures::put_pair(out, Love::ADDRESS, address.low());
 }
 
 // Writes what ends a normal reply whose data ends before index end: checksum and ACK. An index, and no struct round the lent buffer.
@@ -142,47 +141,39 @@ fn store(words: &mut [u32], k: usize, word: u32)
     words[LOVE + k] = word;
 }
 
-// Carries out what a frame asks on the words of a fit card, or refuses it.
+// What is told of an order that was carried out, by its reply's length.
+fn answered(len: usize) -> Outcome
+    ensures { (result.number ≡ answered) × (result.len ≡ len) }
+{
+    Outcome {
+        number: ANSWERED,
+        len,
+    }
+}
+
+// Carries out what a frame asks of the unit at the address on the words of a fit card, or refuses it.
 // One match: each case has its own reply. The number is one of document 01, as `nk_love` hands it to C.
 pub fn obey(
     words: &mut [u32],
     memory: &[u8],
+    address: Address,
     order: Result<Order, Refusal>,
     out: &mut [u8],
 ) -> Outcome
-    requires { (Sound order × ((length words.old ≡ word_count) × (address_of words.old ≤ love_address_most))) × ((length memory.now ≡ memory_size) × (room_least ≤ length out.old)) }
+    requires { (Sound order × ((length words.old ≡ word_count) × (address.value ≡ address_of words.old))) × ((length memory.now ≡ memory_size) × (room_least ≤ length out.old)) }
     ensures { GaveWords (obeyed words.old memory.now order) out.old result.number result.len words.new out.new }
 {
-    let address = Address {
-        value: words[LOVE_ADDRESS],
-    };
     match order {
         Err(Refusal::Silent(number)) => Outcome { number, len: 0 },
         Err(Refusal::Refused(number, code)) => {
             let len = put_error(out, address, code);
             Outcome { number, len }
         }
-        Ok(Order::Probe) => {
-            let len = put_probe(out, address, memory[0]);
-            Outcome {
-                number: ANSWERED,
-                len,
-            }
-        }
-        Ok(Order::Read(k)) => {
-            let len = put_value(out, address, words[LOVE + k]);
-            Outcome {
-                number: ANSWERED,
-                len,
-            }
-        }
+        Ok(Order::Probe) => answered(put_probe(out, address, memory[0])),
+        Ok(Order::Read(k)) => answered(put_value(out, address, words[LOVE + k])),
         Ok(Order::Write(k, word)) => {
             store(words, k, word);
-            let len = put_written(out, address);
-            Outcome {
-                number: ANSWERED,
-                len,
-            }
+            answered(put_written(out, address))
         }
     }
 }

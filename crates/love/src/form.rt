@@ -1,6 +1,6 @@
 // The dialect's type: its shortest and longest frame and the rest of its form, for frame checks and receivers. Document 01, "Love".
-ghost use Rattle.std.specs.Prelude.{◌≡◌, ◌≤◌};
-ghost use Rattle.card.specs.Fitness.{love_address_most};
+ghost use Rattle.std.specs.Prelude.{◌≡◌, ◌≤◌, ◌%◌};
+ghost use Rattle.card.specs.Fitness.{love_address_most, love_hundred};
 ghost use Rattle.love.specs.Form.{shortest, longest, filter_of};
 
 use card::fitness::LOVE_HUNDRED;
@@ -14,6 +14,24 @@ pub struct Love {}
 pub struct Address {
     pub value: u32,
     pub ghost right: { value ≤ love_address_most },
+}
+
+impl Address {
+    // The filter character: one of the four letters, by the address's hundreds.
+    pub(crate) fn filter(self) -> u8
+        ensures { result ≡ filter_of self.value }
+    {
+        let letters = b"LOVE";
+        let hundreds = (self.value / LOVE_HUNDRED) as usize;
+        letters[hundreds]
+    }
+
+    // The byte that its two figures are. The cast loses nothing: the remainder fits a byte.
+    pub(crate) fn low(self) -> u8
+        ensures { result ≡ self.value % love_hundred }
+    {
+        (self.value % LOVE_HUNDRED) as u8
+    }
 }
 
 // "Numbers returned", last lines.
@@ -92,13 +110,4 @@ impl Love {
     pub const FIELD_ERROR: u8 = 0x05;
 
     pub const OUT_OF_RANGE: u8 = 0x06;
-
-    // The filter character: one of the four letters, by the address's hundreds.
-    pub(crate) fn filter(address: Address) -> u8
-        ensures { result ≡ filter_of address.value }
-    {
-        let letters = b"LOVE";
-        let hundreds = (address.value / LOVE_HUNDRED) as usize;
-        letters[hundreds]
-    }
 }

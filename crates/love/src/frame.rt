@@ -7,7 +7,7 @@ ghost use Rattle.love.specs.Frame.{for_unit, checksum_right, byte_at, parameter_
 ghost use Rattle.love.specs.Stages.{place_of, minus_in, order_write, order_by, order_in, order_here};
 
 use crate::form::{Address, Love};
-use card::fitness::{LOVE_HUNDRED, in_range};
+use card::fitness::in_range;
 use card::layout::LOVE;
 use card::numbers::{CHECK_CHARACTER, COMMAND_UNKNOWN, FOREIGN_ADDRESS, FRAME_FORM, VALUE_OUTSIDE};
 use figures::sheet::Sheet;
@@ -34,6 +34,15 @@ pub enum Refusal {
     Refused(u8, u8),
 }
 
+// The refusals that several tests share: no frame; data of a wrong length; no command; a write's figures or sign that are none.
+const NO_FRAME: Refusal = Refusal::Silent(FRAME_FORM);
+
+const NO_FIELDS: Refusal = Refusal::Refused(FRAME_FORM, Love::FIELD_ERROR);
+
+const NO_COMMAND: Refusal = Refusal::Refused(COMMAND_UNKNOWN, Love::UNDEFINED_COMMAND);
+
+const NO_VALUE: Refusal = Refusal::Refused(VALUE_OUTSIDE, Love::FIELD_ERROR);
+
 // The byte that two characters are, both of them figures below limit.
 fn byte_at(sheet: &Sheet, s: &[u8], i: usize, limit: u8) -> Option<u8>
     requires { i + 1 < length s.now }
@@ -42,13 +51,12 @@ fn byte_at(sheet: &Sheet, s: &[u8], i: usize, limit: u8) -> Option<u8>
     sheet.pair_byte(s[i], s[i + 1], limit)
 }
 
-// Whether a frame's filter and its address figures, read as unit, are those of the address. The cast only widens.
+// Whether a frame's filter and its address figures, read as unit, are those of the address.
 fn is_for(address: Address, unit: u8, f: &[u8]) -> bool
     requires { (shortest ≤ length f.now) × (unit ≡ byte_at upper_hex f.now address_at) }
     ensures { result ≡ for_unit address.value f.now }
 {
-    let filter = Love::filter(address);
-    (f[Love::FILTER] == filter) & (unit as u32 == address.value % LOVE_HUNDRED)
+    (f[Love::FILTER] == address.filter()) & (unit == address.low())
 }
 
 // Whether a frame's two checksum figures are its checksum.
@@ -94,9 +102,9 @@ fn order_write(sheet: &Sheet, k: usize, characters: &[u8]) -> Result<Order, Refu
 {
     let value = sheet
         .value(&characters[Love::VALUE..Love::SIGN])
-        .ok_or(Refusal::Refused(VALUE_OUTSIDE, Love::FIELD_ERROR))?;
+        .ok_or(NO_VALUE)?;
     let sign = byte_at(sheet, characters, Love::SIGN, HEX);
-    let negative = is_minus(sign).ok_or(Refusal::Refused(VALUE_OUTSIDE, Love::FIELD_ERROR))?;
+    let negative = is_minus(sign).ok_or(NO_VALUE)?;
     let number = figures::with_sign(negative, value as u32);
     if !in_range(LOVE + k, number) {
         return Err(Refusal::Refused(VALUE_OUTSIDE, Love::OUT_OF_RANGE));
@@ -118,17 +126,17 @@ fn order_by(
     match command {
         Some(Love::READ) => {
             if characters.len() != Love::READ_LENGTH {
-                return Err(Refusal::Refused(FRAME_FORM, Love::FIELD_ERROR));
+                return Err(NO_FIELDS);
             }
             Ok(Order::Read(k))
         }
         Some(Love::WRITE) => {
             if characters.len() != Love::WRITE_LENGTH {
-                return Err(Refusal::Refused(FRAME_FORM, Love::FIELD_ERROR));
+                return Err(NO_FIELDS);
             }
             order_write(sheet, k, characters)
         }
-        _ => Err(Refusal::Refused(COMMAND_UNKNOWN, Love::UNDEFINED_COMMAND)),
+        _ => Err(NO_COMMAND),
     }
 }
 
@@ -139,23 +147,23 @@ fn order_in(sheet: &Sheet, characters: &[u8]) -> Result<Order, Refusal>
 {
     let d = characters.len();
     if d < Love::DATA_LEAST {
-        return Err(Refusal::Refused(FRAME_FORM, Love::FIELD_ERROR));
+        return Err(NO_FIELDS);
     }
     if Love::DATA_MOST < d {
-        return Err(Refusal::Refused(FRAME_FORM, Love::FIELD_ERROR));
+        return Err(NO_FIELDS);
     }
     let command = byte_at(sheet, characters, Love::COMMAND, HEX);
     if command == Some(Love::STATUS) {
         if d != Love::STATUS_LENGTH {
-            return Err(Refusal::Refused(FRAME_FORM, Love::FIELD_ERROR));
+            return Err(NO_FIELDS);
         }
         return Ok(Order::Probe);
     }
     if d < Love::COMMAND_LENGTH {
-        return Err(Refusal::Refused(FRAME_FORM, Love::FIELD_ERROR));
+        return Err(NO_FIELDS);
     }
     let low = byte_at(sheet, characters, Love::PARAMETER, HEX);
-    let k = parameter(low).ok_or(Refusal::Refused(COMMAND_UNKNOWN, Love::UNDEFINED_COMMAND))?;
+    let k = parameter(low).ok_or(NO_COMMAND)?;
     order_by(sheet, command, k, characters)
 }
 
@@ -191,14 +199,14 @@ pub fn order_of(sheet: &Sheet, address: Address, f: &[u8]) -> Result<Order, Refu
 {
     let n = f.len();
     if !Love::fits(n) {
-        return Err(Refusal::Silent(FRAME_FORM));
+        return Err(NO_FRAME);
     }
     if f[0] != Love::STX {
-        return Err(Refusal::Silent(FRAME_FORM));
+        return Err(NO_FRAME);
     }
     if f[n - 1] != Love::ETX {
-        return Err(Refusal::Silent(FRAME_FORM));
+        return Err(NO_FRAME);
     }
-    let unit = byte_at(sheet, f, Love::ADDRESS, UPPER_HEX).ok_or(Refusal::Silent(FRAME_FORM))?;
+    let unit = byte_at(sheet, f, Love::ADDRESS, UPPER_HEX).ok_or(NO_FRAME)?;
     order_here(sheet, address, unit, f)
 }

@@ -32,5 +32,5 @@ pub fn love(words: &mut [u32], memory: &[u8], ports: &[u8], f: &[u8], out: &mut 
         value: words[LOVE_ADDRESS],
     };
     let order = frame::order_of(&sheet, address, f);
-    answer::obey(words, memory, order, out)
+    answer::obey(words, memory, address, order, out)
 }

@@ -12,7 +12,7 @@ ghost use Rattle.love_master.specs.Request.{askable, half_of, sign_of, data_of, 
 use crate::request::{Request, Task};
 use love::answer;
 use love::answer::FIGURES;
-use love::form::{Address, Love};
+use love::form::Love;
 
 // The longest frame that is made: a write.
 pub(crate) const LONGEST: usize = Love::DATA + Love::WRITE_LENGTH + Love::TAIL;
@@ -69,12 +69,8 @@ pub(crate) fn put_frame(out: &mut [u8], request: Request) -> usize
     requires { (askable request ≡ true) × (made_longest ≤ length out.old) }
     ensures { Wrote (made request) out.old result out.new }
 {
-    let address = Address {
-        value: request.address,
-    };
-    answer::put_unit(out, address);
-    let task = request.task;
-    let end = put_data(out, task);
+    answer::put_unit(out, request.unit());
+    let end = put_data(out, request.task);
     let sum = wire::sum(&out[Love::ADDRESS..end]);
     figures::put_pair(out, end, sum);
     out[end + Love::PAIR] = Love::ETX;

@@ -1,10 +1,11 @@
 // What the master may ask: a request, and whether 7 does not refuse it.
-ghost use Rattle.std.specs.Prelude.{◌≡◌};
+ghost use Rattle.std.specs.Prelude.{◌≡◌, true};
 ghost use Rattle.love_master.specs.Request.{task_right, askable};
 ghost use Rattle.love_master.specs.declared.request.Task.TheVariants.{Write};
 
 use card::fitness;
 use card::layout::{LOVE, LOVE_COUNT};
+use love::form::Address;
 
 // To ask for probe 0 and its status; to read a parameter; or to write one, in tenths and two's complement. A parameter is its place: 0 to 3 for
 // SP1, SP2, ALLO, ALHI. Numbers, since C and the console hand them over as they came; `is_askable` judges them.
@@ -20,6 +21,18 @@ pub enum Task {
 pub struct Request {
     pub address: u32,
     pub task: Task,
+}
+
+impl Request {
+    // The unit that it is for.
+    pub(crate) fn unit(self) -> Address
+        requires { askable self ≡ true }
+        ensures { result.value ≡ self.address }
+    {
+        Address {
+            value: self.address,
+        }
+    }
 }
 
 // Whether a parameter takes this value.
@@ -50,6 +63,5 @@ pub(crate) fn is_askable(request: Request) -> bool
     if !fitness::love_right(request.address) {
         return false;
     }
-    let task = request.task;
-    task_right(task)
+    task_right(request.task)
 }

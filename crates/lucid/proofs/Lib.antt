@@ -1,6 +1,7 @@
 pub mod Channels
 pub mod Numbers
 pub mod Commands
+pub mod Types
 pub mod Frames
 pub mod Passing
 pub mod Writes

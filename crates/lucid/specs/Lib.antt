@@ -1,4 +1,5 @@
 pub mod Form
+pub mod Value
 pub mod Frame
 pub mod Command
 pub mod Stages

@@ -5,9 +5,10 @@ ghost use Rattle.card.specs.Layout.{channels, demands_at, parameter_count, param
 ghost use Rattle.card.specs.Reply.{room_least, GaveWords, Told};
 ghost use Rattle.lucid.specs.Form.{data_at, channels_of, demand_size, hundredths_size, parameter_size, values_most, ok, little};
 ghost use Rattle.lucid.specs.Stages.{Sound};
+ghost use Rattle.lucid.specs.Value.{type_of};
 ghost use Rattle.lucid.specs.Answer.{group, hundredths_of, temperature_in, value_of, told, refused, turned_down, read, demanded, stored, default_of, reset, obeyed, named};
 
-use crate::form::Lucid;
+use crate::form::{Lucid, ValueType};
 use crate::frame::{Order, Refusal, pair};
 use card::Outcome;
 use card::fitness::{CYCLE_DEFAULT, FLOOR_DEFAULT};
@@ -79,8 +80,6 @@ impl ValueBytes {
     }
 }
 
-// The words, the memory and the buffer stay slices here, each length a clause: the C interface lends them so (nk_lucid), and a
-// struct round them would be made and taken apart in `lucid` alone.
 // Writes status, LEN and the bytes of values.
 fn respond(out: &mut [u8], number: u8, status: u8, values: &[u8]) -> Outcome
     requires { (length values.now ≤ values_most) × (room_least ≤ length out.old) }
@@ -104,15 +103,14 @@ fn tell(out: &mut [u8], number: u8, status: u8) -> Outcome
 }
 
 // A temperature in the type asked.
-fn put_temperature(value_type: u8, t: Tenths, values: &mut ValueBytes)
+fn put_temperature(value_type: ValueType, t: Tenths, values: &mut ValueBytes)
     requires { length values.old + hundredths_size ≤ values_most }
-    ensures { values.new ≡ values.old ++ temperature_in value_type t }
+    ensures { values.new ≡ values.old ++ temperature_in (type_of value_type) t }
 {
-    if value_type == Lucid::TENTHS {
-        values.append(&t.word().to_le_bytes()[..Lucid::TENTHS_SIZE as usize]);
-        return;
+    match value_type {
+        ValueType::Tenths => values.append(&t.word().to_le_bytes()[..Lucid::TENTHS_SIZE as usize]),
+        _ => values.append(&Hundredths::of(t).0.to_le_bytes()),
     }
-    values.append(&Hundredths::of(t).0.to_le_bytes());
 }
 
 // Answers the value of a parameter.
@@ -170,6 +168,7 @@ fn names(mask: u8, channel: usize) -> bool
 }
 
 // Sets the demands of the channels that a mask names, lowest first.
+// A place beside the loop: it goes on past a named channel alone, so that no chunk of the data goes with each channel.
 fn set_demands(words: &mut [u32], mask: u8, f: &[u8])
     requires { (length words.old ≡ word_count) × (length f.now ≡ data_at + demand_size * length (channels_of mask)) }
     ensures { words.new ≡ demanded (channels_of mask) f.now data_at words.old }
@@ -185,22 +184,30 @@ fn set_demands(words: &mut [u32], mask: u8, f: &[u8])
 }
 
 // Answers the values of the channels that a mask names, lowest first; or the fault, with nothing of the group in it.
-fn read_channels(words: &[u32], memory: &[u8], value_type: u8, mask: u8, out: &mut [u8]) -> Outcome
+fn read_channels(
+    words: &[u32],
+    memory: &[u8],
+    value_type: ValueType,
+    mask: u8,
+    out: &mut [u8],
+) -> Outcome
     requires { (length words.now ≡ word_count) × ((length memory.now ≡ memory_size) × (room_least ≤ length out.old)) }
-    ensures { Told (read (group (value_of words.now memory.now value_type) (channels_of mask))) out.old result.number result.len out.new }
+    ensures { Told (read (group (value_of words.now memory.now (type_of value_type)) (channels_of mask))) out.old result.number result.len out.new }
 {
     let mut values = ValueBytes::new();
     for channel in 0..CHANNELS {
         if names(mask, channel) {
-            if value_type == Lucid::DEMAND {
-                let demand = words[DEMANDS + channel];
-                values.append(&demand.to_le_bytes()[..Lucid::DEMAND_SIZE as usize]);
-            } else {
-                let reading = read_code(memory[channel]);
-                let Reading::Temperature(t) = reading else {
-                    return respond(out, PROBE_FAULT, Lucid::ERR_EXECUTION, &[]);
-                };
-                put_temperature(value_type, t, &mut values);
+            match value_type {
+                ValueType::Demand => {
+                    let demand = words[DEMANDS + channel];
+                    values.append(&demand.to_le_bytes()[..Lucid::DEMAND_SIZE as usize]);
+                }
+                ValueType::Tenths | ValueType::Hundredths => {
+                    let Reading::Temperature(t) = read_code(memory[channel]) else {
+                        return respond(out, PROBE_FAULT, Lucid::ERR_EXECUTION, &[]);
+                    };
+                    put_temperature(value_type, t, &mut values);
+                }
             }
         }
     }
@@ -219,6 +226,8 @@ pub(crate) fn turn_down(refusal: Refusal, out: &mut [u8]) -> Outcome
 }
 
 // Carries out an order on the words of a fit card.
+// The words, the memory and the buffer stay slices, here and above, each length a clause: the C interface lends them so (nk_lucid), and a
+// struct round them would be made and taken apart in `lucid` alone.
 pub(crate) fn obey(
     words: &mut [u32],
     memory: &[u8],
@@ -230,7 +239,9 @@ pub(crate) fn obey(
     ensures { GaveWords (obeyed words.old memory.now f.now (Ok order)) out.old result.number result.len words.new out.new }
 {
     match order {
-        Order::GetIo(value_type, mask) => read_channels(words, memory, value_type, mask, out),
+        Order::GetIo(number, mask) => {
+            read_channels(words, memory, ValueType::from(number), mask, out)
+        }
         Order::SetIo(mask) => {
             set_demands(words, mask, f);
             tell(out, ANSWERED, Lucid::OK)

@@ -1,6 +1,7 @@
 // The form of a LucidControl frame: OPC, P1, P2, LEN, data. Document 01, "LucidControl"; names by source document 002.
 ghost use Rattle.std.specs.Prelude.{◌≡◌, ◌≤◌};
 ghost use Rattle.lucid.specs.Form.{shortest, longest, hundredths_size, size_of};
+ghost use Rattle.lucid.specs.Value.{Types};
 
 use receiver::Frames;
 
@@ -99,12 +100,31 @@ impl Lucid {
     pub fn size(value_type: u8) -> u8
         ensures { (result ≡ size_of value_type) × (result ≤ hundredths_size) }
     {
-        if value_type == Lucid::DEMAND {
-            return Lucid::DEMAND_SIZE;
+        match ValueType::from(value_type) {
+            ValueType::Demand => Lucid::DEMAND_SIZE,
+            ValueType::Tenths => Lucid::TENTHS_SIZE,
+            ValueType::Hundredths => Lucid::HUNDREDTHS_SIZE,
         }
-        if value_type == Lucid::TENTHS {
-            return Lucid::TENTHS_SIZE;
+    }
+}
+
+// What a value is: a demand, or a temperature in one of two units.
+#[derive(Clone, Copy)]
+pub enum ValueType {
+    Demand,
+    Tenths,
+    Hundredths,
+}
+
+// From any number, as document 01 tells the types apart: 10h, 40h, else 41h. Whether a number is a type's at all, a test of the frame says.
+impl From<u8> for ValueType {
+    ghost from_gives = { Types };
+
+    fn from(number: u8) -> Self {
+        match number {
+            Lucid::DEMAND => ValueType::Demand,
+            Lucid::TENTHS => ValueType::Tenths,
+            _ => ValueType::Hundredths,
         }
-        Lucid::HUNDREDTHS_SIZE
     }
 }

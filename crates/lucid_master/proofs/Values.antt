@@ -1,5 +1,5 @@
 -- The values of an answer, one after another: those known so far and those to come. Assumes nothing.
-use Rattle.std.proofs.Common.{ℕ, suc, ◌+◌, ◌-◌, ◌*◌, ◌≤◌, ◌<◌, ◌≡◌, refl, sym, ap, ◌∙◌, Bool, true, false, ◌&&◌, List, [], ◌∷◌, ◌++◌, append_assoc, append-nil, mul-suc, add-one, arith, eqb-true, ne_eqb, eq-eqb, eqb, length, take, get_or, set, length-set, take-suc-set}
+use Rattle.std.proofs.Common.{ℕ, suc, ◌+◌, ◌-◌, ◌*◌, ◌≤◌, ◌<◌, ◌≡◌, refl, sym, ap, ◌∙◌, Bool, true, false, ◌&&◌, List, [], ◌∷◌, ◌++◌, append_assoc, append-nil, mul-zero, mul-suc, add-one, arith, eqb-true, ne_eqb, eq-eqb, eqb, length, take, get_or, set, length-set, take-suc-set}
 use Rattle.std.proofs.Math.Nat.{sub-zero}
 use Rattle.wire.specs.Choose.{choose}
 use Rattle.wire.specs.Buffer.{same}
@@ -89,39 +89,46 @@ module _ (valueType : ℕ) where
     word_other d t = rw (ne_eqb valueType demand d, ne_eqb valueType tenths t)
 
 module _ (valueType n : ℕ) (r : List ℕ) where
-  -- the first i values are answerable and stand in `values`; from index at on come the others
-  pub record Known (values : List ℕ) (at i : ℕ) : Type 0 where
+  -- where the values from number i on stand
+  abbrev pub stands : ℕ → ℕ
+  stands i = head_size + size_of valueType * i
+
+  -- the first i values are answerable and stand in `values`; behind them come the others
+  pub record Known (values : List ℕ) (i : ℕ) : Type 0 where
     pub few : i ≤ n
     pub room : length values ≡ channels
-    pub left : length r ≡ at + size_of valueType * (n - i)
-    pub right : all_answerable valueType (values_from valueType n r head_size) ≡ all_answerable valueType (values_from valueType (n - i) r at)
-    pub held : values_from valueType n r head_size ≡ take i values ++ values_from valueType (n - i) r at
+    pub left : length r ≡ stands i + size_of valueType * (n - i)
+    pub right : all_answerable valueType (values_from valueType n r head_size) ≡ all_answerable valueType (values_from valueType (n - i) r (stands i))
+    pub held : values_from valueType n r head_size ≡ take i values ++ values_from valueType (n - i) r (stands i)
 
-  pub known_start : (values : List ℕ) → length values ≡ channels → length r ≡ head_size + size_of valueType * n → Known values head_size 0
+  pub known_start : (values : List ℕ) → length values ≡ channels → length r ≡ head_size + size_of valueType * n → Known values 0
   known_start values l e =
-      record { few = omega arith; room = l; left = rw sub-zero e; right = rw sub-zero; held = rw sub-zero }
+      record { few = omega arith; room = l; left = rw (mul-zero, sub-zero) e; right = rw (mul-zero, sub-zero); held = rw (mul-zero, sub-zero) }
 
-  module _ (values : List ℕ) (at i : ℕ) (more : i < n) where
+  module _ (values : List ℕ) (i : ℕ) (more : i < n) where
     fewer : n - i ≡ suc (n - (i + 1))
     fewer = omega arith
 
-    values_next : values_from valueType (n - i) r at ≡ word_of valueType (number_at (size_of valueType) r at) ∷ values_from valueType (n - (i + 1)) r (at + size_of valueType)
+    stands_next : stands (i + 1) ≡ stands i + size_of valueType
+    stands_next = omega (arith, ap (λ (m : ℕ). size_of valueType * m) (add-one i), mul-suc (size_of valueType) i)
+
+    values_next : values_from valueType (n - i) r (stands i) ≡ word_of valueType (number_at (size_of valueType) r (stands i)) ∷ values_from valueType (n - (i + 1)) r (stands (i + 1))
     unfolding values_from
-    values_next = rw fewer
+    values_next = rw (fewer, stands_next)
 
-    left_next : Known values at i → length r ≡ at + size_of valueType + size_of valueType * (n - (i + 1))
-    left_next k = omega (arith, k.left, ap (λ (m : ℕ). size_of valueType * m) fewer, mul-suc (size_of valueType) (n - (i + 1)))
+    left_next : Known values i → length r ≡ stands (i + 1) + size_of valueType * (n - (i + 1))
+    left_next k = omega (arith, k.left, stands_next, ap (λ (m : ℕ). size_of valueType * m) fewer, mul-suc (size_of valueType) (n - (i + 1)))
 
-    module _ (w : ℕ) (read : w ≡ word_of valueType (number_at (size_of valueType) r at)) where
-      pub known_wrong : answerable valueType w ≡ false → Known values at i → all_answerable valueType (values_from valueType n r head_size) ≡ false
+    module _ (w : ℕ) (read : w ≡ word_of valueType (number_at (size_of valueType) r (stands i))) where
+      pub known_wrong : answerable valueType w ≡ false → Known values i → all_answerable valueType (values_from valueType n r head_size) ≡ false
       unfolding all_answerable
       known_wrong e k = k.right ∙ rw (values_next, ← read, e)
 
-      pub known_next : n ≤ channels → answerable valueType w ≡ true → Known values at i → Known (set values i w) (at + size_of valueType) (i + 1)
+      pub known_next : n ≤ channels → answerable valueType w ≡ true → Known values i → Known (set values i w) (i + 1)
       unfolding all_answerable
       known_next small e k =
           let inside : i < length values = omega (arith, k.room) in
-          let rest = values_from valueType (n - (i + 1)) r (at + size_of valueType) in
+          let rest = values_from valueType (n - (i + 1)) r (stands (i + 1)) in
           let front : take (i + 1) (set values i w) ≡ take i values ++ (w ∷ []) = ap (λ (m : ℕ). take m (set values i w)) (add-one i) ∙ take-suc-set values i w inside in
           record {
             few = omega arith;
@@ -132,10 +139,10 @@ module _ (valueType n : ℕ) (r : List ℕ) where
           }
 
   -- all are known
-  pub heard_all : (values : List ℕ) (at i : ℕ) → n ≤ i → shaped r (size_of valueType * n) ≡ true → Known values at i
+  pub heard_all : (values : List ℕ) (i : ℕ) → n ≤ i → shaped r (size_of valueType * n) ≡ true → Known values i
       → Gives (take n values) ≡ heard_values valueType n r
   unfolding heard_values values_from all_answerable
-  heard_all values at i end s k =
+  heard_all values i end s k =
       let e : i ≡ n = omega (arith, k.few) in
       let none : n - i ≡ 0 = omega arith in
       let right : all_answerable valueType (values_from valueType n r head_size) ≡ true = k.right ∙ rw none in

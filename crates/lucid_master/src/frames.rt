@@ -57,10 +57,8 @@ fn put_demands(out: &mut [u8], values: &[u32])
     requires { data_at + demand_size * length values.now ≤ length out.old }
     ensures { out.new ≡ put out.old data_at (demand_bytes values.now) }
 {
-    let mut at = Lucid::DATA;
-    for value in values {
-        put_pair(out, at, *value);
-        at += Lucid::DEMAND_SIZE as usize;
+    for (i, value) in values.iter().enumerate() {
+        put_pair(out, Lucid::DATA + Lucid::DEMAND_SIZE as usize * i, *value);
     }
 }
 
@@ -104,13 +102,12 @@ pub(crate) fn put_frame(out: &mut [u8], request: Request, values: &[u32]) -> usi
     requires { (askable (asking_of request values.now) ≡ true) × (made_most ≤ length out.old) }
     ensures { Wrote (made (asking_of request values.now)) out.old result out.new }
 {
-    let command = request.command;
     let head = Head {
-        opc: command.opc(),
+        opc: request.command.opc(),
         p1: request.p1 as u8,
         p2: request.p2 as u8,
     };
-    match command {
+    match request.command {
         Command::GetIo | Command::GetIoGroup => put_bare(out, head),
         Command::SetIo | Command::SetIoGroup => put_set(out, head, values),
         Command::GetParam | Command::Reset => put_addressed(out, head, request.address),

@@ -12,7 +12,7 @@ use crate::request::{Command, Request};
 use asking::{Group, Heard, Unread, is_temperature};
 use card::fitness::{DEMAND_MOST, in_range};
 use card::layout::{CHANNELS, PARAMETERS};
-use lucid::form::Lucid;
+use lucid::form::{Lucid, ValueType};
 use lucid::frame;
 
 // A tenth of a degree, in the units of types 40h and 41h.
@@ -74,26 +74,22 @@ fn value_at(value_type: u8, reply: &[u8], at: usize) -> u32
     requires { at + size_of value_type ≤ length reply.now }
     ensures { result ≡ word_of value_type (number_at (size_of value_type) reply.now at) }
 {
-    if value_type == Lucid::DEMAND {
-        return frame::pair(reply, at);
+    match ValueType::from(value_type) {
+        ValueType::Demand => frame::pair(reply, at),
+        ValueType::Tenths => short_word(frame::pair(reply, at)),
+        ValueType::Hundredths => frame::quad(reply, at),
     }
-    if value_type == Lucid::TENTHS {
-        return short_word(frame::pair(reply, at));
-    }
-    frame::quad(reply, at)
 }
 
 // Whether an answer of a type may have this value.
 fn is_answerable(value_type: u8, value: u32) -> bool
     ensures { result ≡ answerable value_type value }
 {
-    if value_type == Lucid::DEMAND {
-        return value <= DEMAND_MOST;
+    match ValueType::from(value_type) {
+        ValueType::Demand => value <= DEMAND_MOST,
+        ValueType::Tenths => is_temperature(TENTHS, value),
+        ValueType::Hundredths => is_temperature(HUNDREDTHS, value),
     }
-    if value_type == Lucid::TENTHS {
-        return is_temperature(TENTHS, value);
-    }
-    is_temperature(HUNDREDTHS, value)
 }
 
 // What is heard where n values of a type were asked for.
@@ -106,14 +102,12 @@ fn hear_values(value_type: u8, n: usize, reply: &[u8]) -> Result<Heard, Unread>
         return Err(Unread::Form);
     }
     let mut values = [0u32; CHANNELS];
-    let mut at = Lucid::HEAD;
     for i in 0..n {
-        let value = value_at(value_type, reply, at);
+        let value = value_at(value_type, reply, Lucid::HEAD + size * i);
         if !is_answerable(value_type, value) {
             return Err(Unread::Form);
         }
         values[i] = value;
-        at += size;
     }
     Ok(Heard::Values(Group::new(&values[..n])))
 }
@@ -148,21 +142,21 @@ fn hear_answer(request: Request, reply: &[u8]) -> Result<Heard, Unread>
     requires { Headed request }
     ensures { hearing_of result ≡ heard_command request.command request reply.now }
 {
-    let command = request.command;
-    match command {
+    match request.command {
         Command::GetIo => hear_values(request.p2 as u8, 1, reply),
         Command::GetIoGroup => {
-            let n = frame::count(request.p1 as u8);
-            hear_values(request.p2 as u8, n as usize, reply)
+            hear_values(
+                request.p2 as u8,
+                frame::count(request.p1 as u8) as usize,
+                reply,
+            )
         }
-        Command::SetIo => hear_done(reply),
-        Command::SetIoGroup => hear_done(reply),
         Command::GetParam => {
-            let place = frame::place_of(request.p1 as u8, request.address);
-            hear_parameter(place, reply)
+            hear_parameter(frame::place_of(request.p1 as u8, request.address), reply)
         }
-        Command::SetParam => hear_done(reply),
-        Command::Reset => hear_done(reply),
+        Command::SetIo | Command::SetIoGroup | Command::SetParam | Command::Reset => {
+            hear_done(reply)
+        }
     }
 }
 

@@ -17,8 +17,8 @@ use card::Outcome;
 use card::numbers::VALUE_OUTSIDE;
 use request::Request;
 
-// Each master has its own make and read: what they share is in asking, and a trait could not give the room of the frame's array.
 // Makes the frame of a request, which sends these values, in a lent buffer.
+// Each master has its own make and read: what they share is in asking, and a trait could not give the room of the frame's array.
 pub fn make(request: Request, values: &[u32], out: &mut [u8]) -> Outcome
     ensures { let q = asking_of request values.now in
         Told (making (askable q) (made q) (length out.old)) out.old result.number result.len out.new }

@@ -54,6 +54,7 @@ pub struct Request {
     pub address: u32,
 }
 
+// Not the card's tests, here and below: those take bytes and a frame's command, and these are what shows that P1 and P2 are bytes.
 fn channel_right(p1: u32) -> bool
     ensures { result ≡ channel_right p1 }
 {
@@ -111,11 +112,10 @@ fn group_set_right(request: Request, values: &[u32]) -> bool
     requires { request.command ≡ SetIoGroup }
     ensures { result ≡ askable (asking_of request values.now) }
 {
-    let mask = request.p1;
-    if !mask_right(mask) {
+    if !mask_right(request.p1) {
         return false;
     }
-    set_right(request.p2, frame::count(mask as u8) as usize, values)
+    set_right(request.p2, frame::count(request.p1 as u8) as usize, values)
 }
 
 // Whether 7 does not refuse a SetParam.
@@ -123,8 +123,7 @@ fn set_param_right(request: Request, values: &[u32]) -> bool
     requires { request.command ≡ SetParam }
     ensures { result ≡ askable (asking_of request values.now) }
 {
-    let channel = request.p1;
-    if !channel_right(channel) {
+    if !channel_right(request.p1) {
         return false;
     }
     let option = request.p2;
@@ -137,7 +136,7 @@ fn set_param_right(request: Request, values: &[u32]) -> bool
     if values.len() != 1 {
         return false;
     }
-    let place = frame::place_of(channel as u8, request.address);
+    let place = frame::place_of(request.p1 as u8, request.address);
     in_range(PARAMETERS + place as usize, values[0])
 }
 
@@ -145,21 +144,22 @@ fn set_param_right(request: Request, values: &[u32]) -> bool
 pub(crate) fn is_askable(request: Request, values: &[u32]) -> bool
     ensures { result ≡ askable (asking_of request values.now) }
 {
-    let command = request.command;
-    let p1 = request.p1;
-    let p2 = request.p2;
+    let Request {
+        command,
+        p1,
+        p2,
+        address,
+    } = request;
     match command {
         Command::GetIo => channel_right(p1) & get_right(p2, values),
         Command::GetIoGroup => mask_right(p1) & get_right(p2, values),
         Command::SetIo => channel_right(p1) & set_right(p2, 1, values),
         Command::SetIoGroup => group_set_right(request, values),
-        Command::GetParam => {
-            channel_right(p1) & ((p2 == 0) & addressed_right(request.address, values))
-        }
+        Command::GetParam => { channel_right(p1) & ((p2 == 0) & addressed_right(address, values)) }
         Command::SetParam => set_param_right(request, values),
         Command::Reset => {
             let option = (p2 == RESET) | (p2 == RESET_SAVED);
-            channel_right(p1) & (option & addressed_right(request.address, values))
+            channel_right(p1) & (option & addressed_right(address, values))
         }
     }
 }

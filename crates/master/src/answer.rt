@@ -17,10 +17,8 @@ fn is_by_turns(shown: &[u8], masks: &[u8], states: &[u8]) -> bool
     ensures { result ≡ same shown.now (pairs masks.now states.now) }
 {
     let mut ok = true;
-    for i in 0..masks.len() {
-        let mask = shown[2 * i] == masks[i];
-        let state = shown[2 * i + 1] == states[i];
-        ok = ok & (mask & state);
+    for (pair, (mask, state)) in shown.chunks_exact(2).zip(masks.iter().zip(states)) {
+        ok = ok & ((pair[0] == *mask) & (pair[1] == *state));
     }
     ok
 }
@@ -80,14 +78,14 @@ pub fn is_echo(request: Askable, answer: &[u8]) -> bool
 
 // Whether every byte read, or every forced bit, is as asked.
 fn all_asked(request: Askable, read: &[u8]) -> bool
-    requires { length request.ask.sent.now ≤ length read.now }
+    requires { length request.ask.sent.now ≡ length read.now }
     ensures { result ≡ all_asked (asked_by request.entry).ask read.now (length request.entry.ask.sent.now) }
 {
     let ask = request.ask;
     let mut ok = true;
-    for i in 0..ask.sent.len() {
-        let asked = ask.as_asked(read[i], i);
-        ok = ok & (asked == read[i]);
+    for (i, byte) in read.iter().enumerate() {
+        let asked = ask.as_asked(*byte, i);
+        ok = ok & (asked == *byte);
     }
     ok
 }

@@ -37,6 +37,7 @@ fn interleave(masks: &[u8], states: &[u8], out: &mut [u8])
     requires { (length masks.now ≡ length states.now) × (length masks.now + length masks.now ≤ length out.old) }
     ensures { out.new ≡ overlay (pairs masks.now states.now) out.old }
 {
+    // An index: of a slice written through `chunks_exact_mut` a proof knows the length alone.
     for i in 0..masks.len() {
         out[2 * i] = masks[i];
         out[2 * i + 1] = states[i];

@@ -24,7 +24,7 @@ fn name_of(dialect: Dialect) -> &'static [u8]
     }
 }
 
-// The dialect of a name.
+// The dialect of a name. No match over the names: its proof would have 27 goals, 23 of them of words that are no name.
 pub fn dialect_of(name: &[u8]) -> Option<Dialect>
     ensures { Named name.now result }
 {

@@ -33,24 +33,20 @@ pub(crate) fn is_signed(entry: usize) -> bool {
 }
 
 // Where an entry of the row stands in it: one of two bytes at the second, so that a part frame's count stands right before its bytes.
-// A chain of tests, here and in `is_second`: wrong programs change one (num_as_an_address, count_of_one_byte).
 fn index(place: usize) -> usize
     requires { place < row_size }
     ensures { (result ≡ index_of place) × (result < row_size) }
 {
-    if place == KIND_PLACE {
-        return KIND;
+    match place {
+        KIND_PLACE => KIND,
+        ADDRESS_PLACE => HIGH_ADDRESS,
+        NUM_PLACE => NUM,
+        _ => place,
     }
-    if place == ADDRESS_PLACE {
-        return HIGH_ADDRESS;
-    }
-    if place == NUM_PLACE {
-        return NUM;
-    }
-    place
 }
 
 // Whether the second byte of a number of two bytes stands there: the pending change's address, or the count of a part frame.
+// A chain of tests: over `matches!` and over `contains` of an array what it ensures found no proof.
 fn is_second(i: usize) -> bool
     ensures { (result ≡ is_second i) × (result ≡ true → 0 < i) }
 {

@@ -5,7 +5,7 @@ pub mod dialect;
 mod entry;
 mod table;
 
-ghost use Rattle.std.specs.Prelude.{◌≡◌, ◌+◌, ◌≤◌, ◌<◌, length, IfSome};
+ghost use Rattle.std.specs.Prelude.{◌+◌, ◌≤◌, ◌<◌, length, IfSome};
 ghost use Rattle.tables.specs.Entries.{change_count, entry_count, most_of, Tabled};
 
 use card::change::NO_CHANGE;
@@ -43,11 +43,7 @@ fn part_shown(row: &[u8], at: usize, room: usize) -> usize
     requires { at + 1 < length row.now }
     ensures { result ≤ room }
 {
-    let n = row::count(row, at);
-    if room < n {
-        return room;
-    }
-    n
+    row::count(row, at).min(room)
 }
 
 impl Tables {
@@ -73,14 +69,11 @@ impl Tables {
         if self.row[KIND] == NO_CHANGE {
             return 1;
         }
-        let num = self.row[NUM] as usize;
-        if DATA_MOST < num {
-            return CHANGE_DATA + DATA_MOST;
-        }
-        CHANGE_DATA + num
+        CHANGE_DATA + (self.row[NUM] as usize).min(DATA_MOST)
     }
 
     // The entries of a table that peek shows, the first and how many: of a part frame its bytes alone.
+    // A pair and no Span: where no byte was collected it is empty, and a Span never is.
     fn shown(&self, table: Span) -> (usize, usize)
         ensures { Tabled entry_count result.0 result.1 }
     {

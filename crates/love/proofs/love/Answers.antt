@@ -1,5 +1,5 @@
 -- `love::love` meets its contract: 12, then 11, then the dialect. Assumes nothing.
-use Rattle.std.proofs.Common.{◌≡◌, sym, subst, true, ◌≤◌, arith, length}
+use Rattle.std.proofs.Common.{◌≡◌, refl, sym, subst, true, ◌≤◌, arith, length}
 use Rattle.card.specs.Layout.{card_of}
 use Rattle.card.specs.Fitness.{fit}
 use Rattle.card.specs.Reply.{room_least}
@@ -30,7 +30,7 @@ pub obey-requires : goal.obey-requires
 obey-requires c =
     let p = passed ((goal.at.obey-requires c).Else-number-ne-ANSWERED) in
     let f = fit_facts _ p.0 in
-    ((subst Sound (sym c.order_of-order.ensures) (asked_sound _ _), (f.words_length, f.love_address)), (f.memory_length, p.1))
+    ((subst Sound (sym c.order_of-order.ensures) (asked_sound _ _), (f.words_length, refl)), (f.memory_length, p.1))
 
 pub returns : goal.returns
 unfolding love_reply

@@ -1,23 +1,24 @@
 -- `datalink::collect::second_place` meets its contract, test by test. Assumes nothing.
-use Rattle.std.proofs.Common.{sym, refl, ap, ◌∙◌, eq-eqb, ne_eqb}
-use Rattle.wire.proofs.Cases.{yes, no, told_false, told_true}
-use Rattle.datalink.specs.Frame.{command_known}
+use Rattle.wire.specs.Choose.{choose}
+use Rattle.wire.proofs.Cases.{told_true, told_false}
 use Rattle.datalink.specs.Stages.{second_place}
+use Rattle.datalink.proofs.Commands.{known}
 use Rattle.datalink.proofs.collect.second_place.Goals as goal
 
-pub returns-then-not-command_known : goal.returns-then-not-command_known
-unfolding second_place
-returns-then-not-command_known c =
-    no _ _ _ _ (told_false (c.command_known.ensures ∙ ap command_known c.command_of-command.ensures) c.if-not-command_known.true) refl
+pub returns-in-Err : goal.returns-in-Err
+unfolding second_place choose
+returns-in-Err c =
+    let wrong = c.in-Err.ensures.0 in
+    rw (← c.command_of.ensures, wrong)
 
-pub returns-then-command : goal.returns-then-command
-unfolding second_place
-returns-then-command c =
-    yes _ _ _ _ (told_true (c.command_known.ensures ∙ ap command_known c.command_of-command.ensures) c.if-not-command_known.false)
-    (yes _ _ _ _ (eq-eqb _ _ (sym c.command_of-command.ensures ∙ c.if-command.true)) refl)
+pub returns-in-Ok : goal.returns-in-Ok
+unfolding second_place choose
+returns-in-Ok c =
+    let is_known = known c.in-Ok.command in
+    rw (← c.command_of.ensures, ← c.in-Ok.ensures, is_known, told_true c.is_acknowledge.ensures c.if-is_acknowledge.true)
 
-pub returns : goal.returns
-unfolding second_place
-returns c =
-    yes _ _ _ _ (told_true (c.command_known.ensures ∙ ap command_known c.command_of-command.ensures) c.if-not-command_known.false)
-    (no _ _ _ _ (ne_eqb _ _ (λ e. c.if-command.false (c.command_of-command.ensures ∙ e))) refl)
+pub returns-in-Ok-2 : goal.returns-in-Ok-2
+unfolding second_place choose
+returns-in-Ok-2 c =
+    let is_known = known c.in-Ok.command in
+    rw (← c.command_of.ensures, ← c.in-Ok.ensures, is_known, told_false c.is_acknowledge.ensures c.if-is_acknowledge.false)

@@ -4,4 +4,4 @@ use Rattle.datalink.proofs.collect.size.Goals as goal
 
 pub returns : goal.returns
 unfolding size_of
-returns c = rw (c.data_carried-data.ensures, c.kind_of-kind.ensures, c.command_of.ensures)
+returns c = rw (c.data_carried-data.ensures, c.kind.ensures)

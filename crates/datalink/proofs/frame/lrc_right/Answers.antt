@@ -4,4 +4,4 @@ use Rattle.datalink.proofs.frame.lrc_right.Goals as goal
 
 pub returns : goal.returns
 unfolding lrc_right is_acknowledge
-returns c = rw (← c.requires.1, ← c.sum-sum.ensures)
+returns c = rw (← c.requires.1, ← c.sum-sum.ensures, c.is_acknowledge.ensures)

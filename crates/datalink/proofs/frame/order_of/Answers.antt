@@ -30,11 +30,8 @@ pub returns-then-ia_in-ia : goal.returns-then-ia_in-ia
 unfolding asked
 returns-then-ia_in-ia c = rw (← c.ia_in.ensures) (search cases)
 
-pub command_in-requires : goal.command_in-requires
-command_in-requires c = long ((goal.at.command_in-requires c).Else-not-fits)
-
 pub order_here-requires : goal.order_here-requires
-order_here-requires c = (long ((goal.at.order_here-requires c).Else-not-fits), c.command_in.ensures)
+order_here-requires c = long ((goal.at.order_here-requires c).Else-not-fits)
 
 pub returns : goal.returns
 unfolding asked order_here order_in

@@ -1,4 +1,5 @@
 -- `lecom::answer::read` meets its contract, by what is named. Assumes nothing.
+use Rattle.std.proofs.Common.{inl, inr}
 use Rattle.lecom.specs.Answer.{read_answer}
 use Rattle.lecom.proofs.answer.read.Goals as goal
 
@@ -12,8 +13,4 @@ returns-in-Probe c = rw c.in-Probe.is c.read_probe.ensures
 
 pub returns-in-Activate : goal.returns-in-Activate
 unfolding read_answer
-returns-in-Activate c = rw c.in-Activate.is c.tell-in-Activate.ensures
-
-pub returns-in-Store : goal.returns-in-Store
-unfolding read_answer
-returns-in-Store c = rw c.in-Store.is c.tell-in-Store.ensures
+returns-in-Activate c = elim c.in-Activate.is [ inl e ↦ rw e c.tell-in-Activate.ensures | inr e ↦ rw e c.tell-in-Activate.ensures ]

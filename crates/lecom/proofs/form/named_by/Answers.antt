@@ -1,24 +1,24 @@
--- `lecom::form::named_by` meets its contract, test by test. Assumes nothing.
+-- `lecom::form::named_by` meets its contract, arm by arm. Assumes nothing.
 use Rattle.wire.proofs.Cases.{cases}
 use Rattle.lecom.specs.Form.{named_by}
 use Rattle.lecom.proofs.form.named_by.Goals as goal
 
-pub returns-then-code-le-LAST_REGISTER : goal.returns-then-code-le-LAST_REGISTER
+pub returns-in-0-to-95 : goal.returns-in-0-to-95
 unfolding named_by
-returns-then-code-le-LAST_REGISTER c = search cases
+returns-in-0-to-95 c = search cases
 
-pub returns-then-code : goal.returns-then-code
+pub returns-in-96-to-99 : goal.returns-in-96-to-99
 unfolding named_by
-returns-then-code c = search cases
+returns-in-96-to-99 c = search cases
 
-pub returns-then-code-eq-ACTIVATE : goal.returns-then-code-eq-ACTIVATE
+pub returns-in-103 : goal.returns-in-103
 unfolding named_by
-returns-then-code-eq-ACTIVATE c = search cases
+returns-in-103 c = search cases
 
-pub returns-then-code-eq-STORE : goal.returns-then-code-eq-STORE
+pub returns-in-104 : goal.returns-in-104
 unfolding named_by
-returns-then-code-eq-STORE c = search cases
+returns-in-104 c = search cases
 
-pub returns : goal.returns
+pub returns-in_default : goal.returns-in_default
 unfolding named_by
-returns c = search cases
+returns-in_default c = search cases

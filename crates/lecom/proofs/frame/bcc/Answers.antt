@@ -1,18 +1,12 @@
--- `lecom::frame::bcc` meets its contract. The invariant: `x` before the bytes that are left gives the whole. Assumes nothing.
-use Rattle.std.proofs.Common.{◌≡◌, length, sym, ◌∙◌, add-one, arith, rules}
-use Rattle.std.proofs.Math.Seq.{drop-length}
+-- `lecom::frame::bcc` meets its contract: what is folded of a front of the bytes is that front's check character. Assumes nothing.
+use Rattle.std.proofs.Common.{◌≡◌, subst, refl, rules}
+use Rattle.std.proofs.lemmas.Fn.{fold_over, slice_gives, fronts}
 use Rattle.lecom.specs.Frame.{xor_from, bcc_of}
-use Rattle.lecom.proofs.Frames.{xor_next}
+use Rattle.lecom.proofs.Frames.{xor_push}
 use Rattle.lecom.proofs.frame.bcc.Goals as goal
-
-pub loop-b-preserved : goal.loop-b-preserved
-loop-b-preserved c =
-    let s = c.args.s.now in
-    rw add-one (sym (xor_next c.loop-b.x s c.loop-b.b-index (search rules)) ∙ c.loop-b.invariant)
 
 pub returns : goal.returns
 unfolding bcc_of xor_from
-returns c =
-    let s = c.args.s.now in
-    let e : c.loop-b.b-index ≡ length s = omega arith in
-    rw (← c.loop-b.invariant, e, drop-length s)
+returns c = subst (λ l. c.fold.result ≡ xor_from 0 l) c.iter.ensures.rest
+    (fold_over fronts (λ y. y.now) _ (λ ys x. x ≡ xor_from 0 ys) _ (λ ys a x b f' j k. let more = xor_push 0 ys x.now in search rules)
+    _ _ _ _ (slice_gives c.iter.result) refl c.fold.ensures.ran)

@@ -28,6 +28,6 @@ pub returns : goal.returns
 returns c =
     let text = c.put_text in (
       omega (arith, text.ensures.0, closed_length (part c.args.out.now c.args.at c.args.text) c.args.value),
-      put_closed c.args.out.now c.args.at c.args.text c.args.value text.result c.bcc-check.result _ (omega arith) text.ensures.0 text.ensures.1
-          (omega (arith, room ((goal.at.returns c).After-put_text))) c.bcc-check.ensures,
+      put_closed c.args.out.now c.args.at c.args.text c.args.value text.result c.bcc.result _ (omega arith) text.ensures.0 text.ensures.1
+          (omega (arith, room ((goal.at.returns c).After-put_text))) c.bcc.ensures,
     )

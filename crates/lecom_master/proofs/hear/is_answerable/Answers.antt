@@ -1,4 +1,5 @@
 -- `lecom_master::hear::is_answerable` meets its contract, way by way. Assumes nothing.
+use Rattle.std.proofs.Common.{inl, inr}
 use Rattle.lecom_master.specs.Heard.{answerable}
 use Rattle.lecom_master.proofs.hear.is_answerable.Goals as goal
 
@@ -12,8 +13,4 @@ returns-in-Probe c = rw c.in-Probe.is c.is_temperature.ensures
 
 pub returns-in-Activate : goal.returns-in-Activate
 unfolding answerable
-returns-in-Activate c = rw c.in-Activate.is
-
-pub returns-in-Store : goal.returns-in-Store
-unfolding answerable
-returns-in-Store c = rw c.in-Store.is
+returns-in-Activate c = elim c.in-Activate.is [ inl e ↦ rw e | inr e ↦ rw e ]

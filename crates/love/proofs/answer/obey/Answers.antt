@@ -31,16 +31,23 @@ returns-in-Err-Silent c = rw (c.in-Err-Silent.is, rw c.in-Err-Silent.is at c.in-
 
 pub returns-in-Err-Refused : goal.returns-in-Err-Refused
 unfolding obeyed
-returns-in-Err-Refused c = rw (c.in-Err-Refused.is, rw c.in-Err-Refused.is at c.in-Err-Refused.field-0-is) (gave_leaving _ _ _ (record { numbered = refl; wrote = c.put_error-len.ensures }))
+returns-in-Err-Refused c =
+    rw (c.in-Err-Refused.is, rw c.in-Err-Refused.is at c.in-Err-Refused.field-0-is, ← c.requires.0.1.1) (gave_leaving _ _ _ (record { numbered = refl; wrote = c.put_error-len.ensures }))
 
 pub returns-in-Ok-Probe : goal.returns-in-Ok-Probe
 unfolding obeyed
-returns-in-Ok-Probe c = rw (c.in-Ok-Probe.is, rw c.in-Ok-Probe.is at c.in-Ok-Probe.field-0-is) (gave_leaving _ _ _ (record { numbered = refl; wrote = c.put_probe-len.ensures }))
+returns-in-Ok-Probe c =
+    let told = c.answered.ensures in
+    rw (c.in-Ok-Probe.is, rw c.in-Ok-Probe.is at c.in-Ok-Probe.field-0-is, ← c.requires.0.1.1, told.1) (gave_leaving _ _ _ (record { numbered = told.0; wrote = c.put_probe.ensures }))
 
 pub returns-in-Ok-Read : goal.returns-in-Ok-Read
 unfolding obeyed
-returns-in-Ok-Read c = rw (c.in-Ok-Read.is, rw c.in-Ok-Read.is at c.in-Ok-Read.field-0-is) (gave_leaving _ _ _ (record { numbered = refl; wrote = c.put_value-len.ensures }))
+returns-in-Ok-Read c =
+    let told = c.answered-in-Ok-Read.ensures in
+    rw (c.in-Ok-Read.is, rw c.in-Ok-Read.is at c.in-Ok-Read.field-0-is, ← c.requires.0.1.1, told.1) (gave_leaving _ _ _ (record { numbered = told.0; wrote = c.put_value.ensures }))
 
 pub returns-in-Ok-Write : goal.returns-in-Ok-Write
 unfolding obeyed
-returns-in-Ok-Write c = rw (c.in-Ok-Write.is, rw c.in-Ok-Write.is at c.in-Ok-Write.field-0-is, c.store.ensures) (gave_leaving _ _ _ (record { numbered = refl; wrote = c.put_written-len.ensures }))
+returns-in-Ok-Write c =
+    let told = c.answered-in-Ok-Write.ensures in
+    rw (c.in-Ok-Write.is, rw c.in-Ok-Write.is at c.in-Ok-Write.field-0-is, c.store.ensures, ← c.requires.0.1.1, told.1) (gave_leaving _ _ _ (record { numbered = told.0; wrote = c.put_written.ensures }))

@@ -12,5 +12,5 @@ unfolding unit_of pair_of
 returns c =
     let a = c.args in
     let out = a.out.now in
-    rw (c.put_pair.ensures, c.filter.ensures)
+    rw (c.put_pair.ensures, c.filter.ensures, c.low.ensures)
     (wrote_put _ out (wrote_set _ out (wrote_one stx out (search rules)) (filter_of a.address.value) (search rules)) (pair_of (a.address.value % love_hundred)))

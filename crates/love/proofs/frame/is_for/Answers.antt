@@ -4,4 +4,4 @@ use Rattle.love.proofs.frame.is_for.Goals as goal
 
 pub returns : goal.returns
 unfolding for_unit
-returns c = rw (← c.requires.1, c.filter-filter.ensures)
+returns c = rw (← c.requires.1, c.filter.ensures, c.low.ensures)

@@ -1,14 +1,12 @@
 -- `love_master::frames::put_frame` meets its contract. Assumes nothing.
-use Rattle.std.proofs.Common.{◌≡◌, ℕ, ◌+◌, List, ◌∷◌, length, arith, leb-true}
+use Rattle.std.proofs.Common.{◌≡◌, ℕ, ◌+◌, List, ◌∷◌, length, arith}
 use Rattle.wire.specs.Buffer.{put}
 use Rattle.figures.specs.Figure.{pair_of}
 use Rattle.card.specs.Reply.{Wrote}
-use Rattle.card.specs.Fitness.{love_address_most}
 use Rattle.love.specs.Form.{stx, filter_of, data_at}
 use Rattle.love.specs.Answer.{unit_of}
 use Rattle.love_master.specs.declared.request.Request.{Request}
 use Rattle.love_master.specs.Request.{data_of, body}
-use Rattle.love_master.proofs.Errors.{askable_address}
 use Rattle.love_master.proofs.Makes.{data_most_law, wrote_behind, wrote_made}
 use Rattle.love_master.proofs.frames.put_frame.Goals as goal
 
@@ -17,9 +15,6 @@ written : (q : Request) (out : List ℕ) {end : ℕ} {mid last : List ℕ} → W
     → (end ≡ data_at + length (data_of q.task)) × (last ≡ put mid data_at (data_of q.task)) → Wrote (stx ∷ filter_of q.address ∷ body q) out end last
 unfolding body unit_of pair_of
 written q out w d = wrote_behind _ _ (data_of q.task) w d
-
-pub invariant_of-address : goal.invariant_of-address
-invariant_of-address c = record { right = leb-true _ love_address_most (askable_address _ c.requires.0) }
 
 pub slice_bounds-sum-end : goal.slice_bounds-sum-end
 slice_bounds-sum-end c = omega (arith, data_most_law c.args.request.task)
@@ -40,4 +35,4 @@ pub returns : goal.returns
 returns c =
     let a = c.args in
     rw (c.put_pair.ensures, c.sum-sum.ensures)
-    (wrote_made a.request a.out.now (written a.request a.out.now c.put_unit.ensures c.put_data-end.ensures) (omega (arith, data_most_law a.request.task)))
+    (wrote_made a.request a.out.now (written a.request a.out.now (rw c.unit.ensures at c.put_unit.ensures) c.put_data-end.ensures) (omega (arith, data_most_law a.request.task)))

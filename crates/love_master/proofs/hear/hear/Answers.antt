@@ -1,33 +1,15 @@
 -- `love_master::hear::hear` meets its contract. Assumes nothing.
-use Rattle.std.proofs.Common.{◌≡◌, ◌≤◌, true, ◌∙◌, subst, ltb-true, leb-true}
+use Rattle.std.proofs.Common.{◌≡◌, true, ◌∙◌, subst, ltb-true}
 use Rattle.card.specs.Layout.{love_count}
-use Rattle.card.specs.Fitness.{love_address_most}
 use Rattle.love_master.specs.declared.request.Task.{Task}
 use Rattle.love_master.specs.declared.request.Task.TheVariants.{Status, Read, Write}
-use Rattle.love_master.specs.declared.request.Request.{Request}
-use Rattle.love_master.specs.Request.{task_right, askable}
+use Rattle.love_master.specs.Request.{task_right}
 use Rattle.love_master.specs.Heard.{heard_task}
-use Rattle.love_master.proofs.Errors.{heard_error_law, heard_normal, askable_facts, askable_address}
+use Rattle.love_master.proofs.Errors.{heard_error_law, heard_normal, askable_facts}
 use Rattle.love_master.proofs.hear.hear.Goals as goal
 
--- what 7 does not refuse has the address of a unit
-right : (q : Request) → askable q ≡ true → q.address ≤ love_address_most
-right q h = leb-true _ love_address_most (askable_address q h)
-
-pub invariant_of-address : goal.invariant_of-address
-invariant_of-address c = record { right = right _ c.requires }
-
-pub invariant_of-address-in-Status : goal.invariant_of-address-in-Status
-invariant_of-address-in-Status c = record { right = right _ c.requires }
-
-pub invariant_of-address-in-Read : goal.invariant_of-address-in-Read
-invariant_of-address-in-Read c = record { right = right _ c.requires }
-
-pub invariant_of-address-in-Write : goal.invariant_of-address-in-Write
-invariant_of-address-in-Write c = record { right = right _ c.requires }
-
 pub returns-then-reply-eq-ERROR_LENGTH : goal.returns-then-reply-eq-ERROR_LENGTH
-returns-then-reply-eq-ERROR_LENGTH c = c.hear_error.ensures ∙ heard_error_law _ _ c.if-reply-eq-ERROR_LENGTH.true
+returns-then-reply-eq-ERROR_LENGTH c = (rw c.unit-address.ensures at c.hear_error.ensures) ∙ heard_error_law _ _ c.if-reply-eq-ERROR_LENGTH.true
 
 pub hear_value-requires : goal.hear_value-requires
 unfolding task_right
@@ -38,12 +20,12 @@ hear_value-requires c =
 
 pub returns-in-Status : goal.returns-in-Status
 unfolding heard_task
-returns-in-Status c = heard_normal _ _ Status c.if-reply-eq-ERROR_LENGTH.false c.in-Status.is c.hear_status.ensures
+returns-in-Status c = heard_normal _ _ Status c.if-reply-eq-ERROR_LENGTH.false c.in-Status.is (rw c.unit-address.ensures at c.hear_status.ensures)
 
 pub returns-in-Read : goal.returns-in-Read
 unfolding heard_task
-returns-in-Read c = heard_normal _ _ (Read _) c.if-reply-eq-ERROR_LENGTH.false c.in-Read.is c.hear_value.ensures
+returns-in-Read c = heard_normal _ _ (Read _) c.if-reply-eq-ERROR_LENGTH.false c.in-Read.is (rw c.unit-address.ensures at c.hear_value.ensures)
 
 pub returns-in-Write : goal.returns-in-Write
 unfolding heard_task
-returns-in-Write c = heard_normal _ _ (Write _ _) c.if-reply-eq-ERROR_LENGTH.false c.in-Write.is c.hear_written.ensures
+returns-in-Write c = heard_normal _ _ (Write _ _) c.if-reply-eq-ERROR_LENGTH.false c.in-Write.is (rw c.unit-address.ensures at c.hear_written.ensures)

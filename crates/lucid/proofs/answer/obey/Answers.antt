@@ -1,11 +1,13 @@
 -- `lucid::answer::obey` meets its contract, order by order. Assumes nothing.
 use Rattle.card.proofs.Replies.{gave_leaving}
 use Rattle.lucid.specs.Answer.{obeyed}
+use Rattle.lucid.proofs.Types.{value_typed}
 use Rattle.lucid.proofs.answer.obey.Goals as goal
 
 pub returns-in-GetIo : goal.returns-in-GetIo
 unfolding obeyed
-returns-in-GetIo c = rw c.in-GetIo.is (gave_leaving _ _ _ c.read_channels.ensures)
+returns-in-GetIo c = let a = c.args in
+    rw (c.in-GetIo.is, ← value_typed a.words.now a.memory.now _ _ c.from.ensures) (gave_leaving _ _ _ c.read_channels.ensures)
 
 pub returns-in-SetIo : goal.returns-in-SetIo
 unfolding obeyed

@@ -5,9 +5,8 @@ use Rattle.lucid.specs.Form.{data_at, demand_size}
 use Rattle.lucid_master.specs.Request.{demand_bytes}
 use Rattle.lucid_master.proofs.frames.put_demands.Given as goal
 
-abbrev pub invariant-loop-value : goal.invariant-loop-value
-invariant-loop-value l = record {
-  place : l.at ≡ data_at + demand_size * l.value-index;
+abbrev pub invariant-loop-i : goal.invariant-loop-i
+invariant-loop-i l = record {
   kept : length l.out ≡ length l.initial.out;
-  made : put l.out l.at (demand_bytes (drop l.value-index l.values)) ≡ put l.initial.out data_at (demand_bytes l.values);
+  made : put l.out (data_at + demand_size * l.i) (demand_bytes (drop l.i l.values)) ≡ put l.initial.out data_at (demand_bytes l.values);
 }

@@ -22,19 +22,18 @@ unfolding heard_values
 returns-then-not-is_answerable c = let l = c.loop-i in
     let a = c.args in
     let none = told_false c.is_answerable.ensures c.if-not-is_answerable.true in
-    let wrong = known_wrong a.value_type a.n a.reply.now l.values l.at l.i c.loop-i-test.true _ c.value_at-value.ensures none l.invariant in
+    let wrong = known_wrong a.value_type a.n a.reply.now l.values l.i c.loop-i-test.true _ (rw c.size-size.ensures.0 at c.value_at-value.ensures) none l.invariant in
     no _ _ _ _ (rw wrong (and_false_right (shaped a.reply.now (size_of a.value_type * a.n)))) refl
 
 pub loop-i-preserved : goal.loop-i-preserved
 loop-i-preserved c = let l = c.loop-i in
     let a = c.args in
-    let value = c.value_at-value.ensures in
+    let value = rw c.size-size.ensures.0 at c.value_at-value.ensures in
     let right = told_true c.is_answerable.ensures c.if-not-is_answerable.false in
-    let next = known_next a.value_type a.n a.reply.now l.values l.at l.i c.loop-i-test.true _ value c.requires right l.invariant in
-    rw c.size-size.ensures.0 next
+    known_next a.value_type a.n a.reply.now l.values l.i c.loop-i-test.true _ value c.requires right l.invariant
 
 pub returns : goal.returns
 returns c = let l = c.loop-i in
     let a = c.args in
     let shape = told_true c.is_shaped.ensures c.if-not-is_shaped.false in
-    ap Gives c.new.ensures ∙ heard_all a.value_type a.n a.reply.now l.values l.at l.i c.loop-i-test.false (rw c.size-size.ensures.0 at shape) l.invariant
+    ap Gives c.new.ensures ∙ heard_all a.value_type a.n a.reply.now l.values l.i c.loop-i-test.false (rw c.size-size.ensures.0 at shape) l.invariant

@@ -3,4 +3,4 @@ use Rattle.lucid_master.proofs.Values.{Known}
 use Rattle.lucid_master.proofs.hear.hear_values.Given as goal
 
 abbrev pub invariant-loop-i : goal.invariant-loop-i
-invariant-loop-i l = Known l.value_type l.n l.reply l.values l.at l.i
+invariant-loop-i l = Known l.value_type l.n l.reply l.values l.i

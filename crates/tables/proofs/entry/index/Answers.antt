@@ -4,18 +4,18 @@ use Rattle.wire.proofs.Cases.{cases}
 use Rattle.tables.specs.Entries.{index_of}
 use Rattle.tables.proofs.entry.index.Goals as goal
 
-pub returns-then-place-eq-KIND_PLACE : goal.returns-then-place-eq-KIND_PLACE
+pub returns-in-1 : goal.returns-in-1
 unfolding index_of
-returns-then-place-eq-KIND_PLACE c = (search cases, omega arith)
+returns-in-1 c = (search cases, omega arith)
 
-pub returns-then-place-eq-ADDRESS_PLACE : goal.returns-then-place-eq-ADDRESS_PLACE
+pub returns-in-2 : goal.returns-in-2
 unfolding index_of
-returns-then-place-eq-ADDRESS_PLACE c = (search cases, omega arith)
+returns-in-2 c = (search cases, omega arith)
 
-pub returns-then-place-eq-NUM_PLACE : goal.returns-then-place-eq-NUM_PLACE
+pub returns-in-3 : goal.returns-in-3
 unfolding index_of
-returns-then-place-eq-NUM_PLACE c = (search cases, omega arith)
+returns-in-3 c = (search cases, omega arith)
 
-pub returns : goal.returns
+pub returns-in_default : goal.returns-in_default
 unfolding index_of
-returns c = (search cases, omega arith)
+returns-in_default c = (search cases, omega arith)
