@@ -1,7 +1,7 @@
 /* Nakshvilor: the proved protocol core of the cooling card.
  *
  * Link with libfirmware.a (./card builds target/staticlib/libfirmware.a, from crates/firmware_c). The archive is for x86-64 with the
- * System V calling convention alone. It needs memcpy, memmove and memset, allocates nothing, keeps no state and calls no other function.
+ * System V calling convention alone. It needs memcpy and memset, allocates nothing, keeps no state and calls no other function.
  *
  * TABLES. The firmware owns three tables and passes them to every call of the card. Each is a pointer and a count of ELEMENTS. A
  * table of any other length than below, zero too, gets NK_CARD_UNFIT and is not changed.

@@ -1,6 +1,7 @@
 -- Laws of reading: how large a field is, fields side by side, a byte as a field, and images that agree in every bit.
 -- Assumes nothing.
-use Rattle.std.proofs.Common.{◌≡◌, ℕ, zero, suc, ◌+◌, ◌-◌, ◌*◌, ◌/◌, ◌%◌, ◌^◌, ◌<◌, ◌≤◌, List, length, get_or, sym, refl, ap, ◌∙◌, mul_assoc, pow-suc, div-one, arith, ext_get_or, shr-shr}
+use Rattle.std.proofs.Common.{◌≡◌, ℕ, zero, suc, ◌+◌, ◌-◌, ◌*◌, ◌/◌, ◌%◌, ◌^◌, ◌<◌, ◌≤◌, List, length, get_or, set, sym, refl, ap, ◌∙◌, ⊎_elim, mul_assoc, pow-suc, div-one, arith, ext_get_or, shr-shr, get_or-set_same, get_or-set_other}
+use Rattle.std.proofs.lemmas.Bool.{cases_lt}
 use lib.Pow.{high, low}
 use Rattle.std.specs.Int.{from_be_bytes, w64}
 use Rattle.bits.specs.Bits.{bit, field}
@@ -82,6 +83,15 @@ field_bytes img f j h =
     let e : 8 * (j + 1) ≡ 8 * j + 8 = omega arith in
     let q : 8 * f + 8 * j ≡ 8 * (f + j) = omega arith in
     rw (e, field_append img (8 * f) (8 * j) 8, q, field_byte img (f + j) h)
+
+-- a window's bytes, filled one by one from the image
+pub filled_next : (bs img : List ℕ) (f i j : ℕ) → i < length bs → j < i + 1 → ((k : ℕ) → k < i → get_or bs k 0 ≡ get_or img (f + k) 0) → get_or (set bs i (get_or img (f + i) 0)) j 0 ≡ get_or img (f + j) 0
+filled_next bs img f i j n l h =
+    ⊎_elim
+    (λ below. get_or-set_other bs i j (get_or img (f + i) 0) 0 (λ e. omega arith) ∙ h j below)
+    (λ above. let e : j ≡ i = omega arith in
+    rw e (get_or-set_same bs i (get_or img (f + i) 0) 0 n))
+    (cases_lt j i)
 
 -- eight bytes, as the library reads a number from them
 pub field_window : (img bs : List ℕ) (f : ℕ) → Bytes img → ((i : ℕ) → i < 8 → get_or bs i 0 ≡ get_or img (f + i) 0) → from_be_bytes w64 bs ≡ field img (8 * f) 64

@@ -21,13 +21,16 @@ const WORD_BITS: usize = 32;
 
 const WORD: usize = WORD_BITS / BYTE_BITS;
 
-// The number that the bytes of the window from byte `first` on stand for.
+// The number that the bytes of the window from byte `first` on stand for. A loop, as in wire's `copy`: `copy_from_slice` asks at each field
+// whether the bytes overlap.
 fn window(image: &[u8], first: usize) -> u64
     requires { first + window_bytes ≤ length image.now }
     ensures { result ≡ field image.now (8 * first) window_bits }
 {
     let mut bytes = [0u8; WINDOW];
-    bytes.copy_from_slice(&image[first..first + WINDOW]);
+    for i in 0..WINDOW {
+        bytes[i] = image[first + i];
+    }
     u64::from_be_bytes(bytes)
 }
 

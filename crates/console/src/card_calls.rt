@@ -1,6 +1,6 @@
 // The calls of the card's entries: each reads its words, calls its entry and writes the answer line. It gives None, with nothing
 // changed, where the words do not fit.
-ghost use Rattle.std.specs.Prelude.{◌≤◌, length};
+ghost use Rattle.std.specs.Prelude.{◌≡◌, ◌≤◌, length};
 
 use crate::arguments;
 use crate::arguments::{Buffers, Words};
@@ -15,7 +15,9 @@ use tables::Tables;
 const BYTE_MOST: u32 = 255;
 
 // probe CHANNEL CODE
-fn probe(tables: &mut Tables, mut line: Line, answer: &mut Answer) -> Option<()> {
+fn probe(tables: &mut Tables, mut line: Line, answer: &mut Answer) -> Option<()>
+    ensures { (tables.new.words ≡ tables.old.words) × (tables.new.row ≡ tables.old.row) }
+{
     let channel = line.number(BYTE_MOST)?;
     let code = line.last_number(BYTE_MOST)?;
     let number = entries::set_code(

@@ -1,5 +1,5 @@
 // The line master that the console keeps: request and step.
-ghost use Rattle.std.specs.Prelude.{◌+◌, ◌≤◌, length, IfSome};
+ghost use Rattle.std.specs.Prelude.{◌≡◌, ◌+◌, ◌≤◌, length, IfSome};
 ghost use Rattle.lines.specs.Lent.{line_most, bytes_most, room_most};
 ghost use Rattle.lines.specs.Text.{Put};
 ghost use Rattle.console.specs.Stepped.{verdict_most, verdict_of, stepped, stepped_most};
@@ -21,7 +21,7 @@ struct Asked {
 }
 
 // The request, if there is one yet, with the bytes asked for, or the masks, and the states.
-#[derive(Drop)]
+#[derive(Clone, Copy)]
 pub struct Exchange {
     asked: Option<Asked>,
     sent: Text<BYTES_MOST>,
@@ -124,7 +124,9 @@ impl Exchange {
     }
 
     // step ROOM BYTES
-    fn step(&mut self, words: Words, buffers: &mut Buffers, answer: &mut Answer) -> Option<()> {
+    fn step(&mut self, words: Words, buffers: &mut Buffers, answer: &mut Answer) -> Option<()>
+        ensures { (self.new.sent ≡ self.old.sent) × (self.new.states ≡ self.old.states) }
+    {
         let mut line = words.line;
         let room = arguments::room(&mut line)?;
         let heard = line.last_bytes(&mut buffers.first)?;

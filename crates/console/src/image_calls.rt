@@ -1,4 +1,6 @@
 // The calls of the image's entries, as those of the card.
+ghost use Rattle.std.specs.Prelude.{◌≡◌};
+
 use crate::arguments::{Buffers, Words};
 use crate::call::ImageCall;
 use lines::line::Line;
@@ -15,12 +17,9 @@ fn save(tables: &Tables, mut line: Line, buffers: &mut Buffers, answer: &mut Ans
 }
 
 // load BYTES
-fn load(
-    tables: &mut Tables,
-    words: Words,
-    buffers: &mut Buffers,
-    answer: &mut Answer,
-) -> Option<()> {
+fn load(tables: &mut Tables, words: Words, buffers: &mut Buffers, answer: &mut Answer) -> Option<()>
+    ensures { (tables.new.memory ≡ tables.old.memory) × (tables.new.row ≡ tables.old.row) }
+{
     let mut line = words.line;
     let image = line.last_bytes(&mut buffers.first)?;
     let number = image::read_image(&mut tables.words, &tables.memory, &tables.row, image);
@@ -35,7 +34,9 @@ pub fn run(
     words: Words,
     buffers: &mut Buffers,
     answer: &mut Answer,
-) -> Option<()> {
+) -> Option<()>
+    ensures { (tables.new.memory ≡ tables.old.memory) × (tables.new.row ≡ tables.old.row) }
+{
     match call {
         ImageCall::Save => save(tables, words.line, buffers, answer),
         ImageCall::Load => load(tables, words, buffers, answer),

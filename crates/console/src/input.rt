@@ -20,7 +20,7 @@ pub enum Came {
 
 // Where reading stands: the bytes of the buffer from at to end are still to be taken; how long the line is that has come, or None where
 // it is too long; and what reading on came to.
-#[derive(Drop)]
+#[derive(Clone, Copy)]
 pub struct Input {
     buffer: [u8; READ_MOST],
     pub at: usize,
@@ -63,7 +63,9 @@ impl Input {
     }
 
     // Takes what is left in the buffer to the line, up to a line feed. A line that is too long stays so.
-    fn take(&mut self) {
+    fn take(&mut self)
+        ensures { (self.new.buffer ≡ self.old.buffer) × (self.new.end ≡ self.old.end) }
+    {
         let left = &self.buffer[..self.end];
         let stop = line::scan(left, self.at, |b| b == LINE_FEED);
         if let Some(n) = self.n {

@@ -38,6 +38,7 @@ fn main(rt: HostRuntime) {
     let stdin = rt.stdin();
     let stdout = rt.stdout();
     let mut console = Console::new();
+    console.start();
     for _ in 0..u64::MAX {
         if let Err(end) = console.go_on(stdin, stdout) {
             report(rt.stderr(), end);

@@ -26,6 +26,7 @@ pub fn hold(held: &mut Held, answer: &Answer)
 pub fn settle(held: &mut Held, stdout: Stdout, left: bool) -> Result<(), End>
     ensures room { held.new.len ≤ answer_most }
     ensures told { left ≡ false → held.new.len ≡ 0 }
+    ensures kept { held.new.out ≡ held.old.out }
 {
     if left && held.len <= ANSWER_MOST {
         return Ok(());

@@ -1,8 +1,6 @@
 // What a line asks.
-ghost use Rattle.std.specs.Prelude.{◌≤◌, length};
-ghost use Rattle.lines.specs.Lent.{line_most};
+ghost use Rattle.console.specs.Parted.{AskedIn};
 
-use crate::arguments::Words;
 use crate::call;
 use crate::call::Call;
 use lines::line::Line;
@@ -15,12 +13,12 @@ const NOTE: u8 = b'#';
 pub enum Question<'a> {
     Nothing,
     Unknown,
-    Call(Call, &'a [u8], Words<'a>),
+    Call(Call, &'a [u8], Line<'a>),
 }
 
 // What a line asks. Spaces alone and a note ask nothing.
 pub fn read_line<'a>(bytes: &'a [u8]) -> Question<'a>
-    requires { length bytes.now ≤ line_most }
+    ensures { AskedIn bytes.now result }
 {
     let mut line = Line::of(bytes);
     if line.is_over() || bytes[0] == NOTE {
@@ -28,7 +26,7 @@ pub fn read_line<'a>(bytes: &'a [u8]) -> Question<'a>
     }
     let name = line.word();
     match call::call_of(name) {
-        Some(call) => Question::Call(call, name, Words { line }),
+        Some(call) => Question::Call(call, name, line),
         None => Question::Unknown,
     }
 }

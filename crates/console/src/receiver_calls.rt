@@ -1,5 +1,5 @@
 // The calls of the receivers' entries, as those of the card.
-ghost use Rattle.std.specs.Prelude.{◌≤◌, length};
+ghost use Rattle.std.specs.Prelude.{◌≡◌, ◌≤◌, length};
 ghost use Rattle.lines.specs.Lent.{bytes_most, room_most};
 ghost use Rattle.lines.specs.Text.{Put};
 ghost use Rattle.console.specs.Received.{received, received_most};
@@ -15,7 +15,8 @@ use tables::{Tables, dialect};
 
 // The bytes reach the dialect's receiver, with the frame at the front of frame.
 fn hand(dialect: Dialect, tables: &mut Tables, bytes: &[u8], frame: &mut [u8]) -> Received
-    ensures { (result.taken ≤ length bytes.now) × (result.len ≤ length frame.new) }
+    ensures given { (result.taken ≤ length bytes.now) × (result.len ≤ length frame.new) }
+    ensures kept { (tables.new.words ≡ tables.old.words) × (tables.new.memory ≡ tables.old.memory) }
 {
     receive::receive(
         dialect,
@@ -49,7 +50,9 @@ fn receive_bytes(
     words: Words,
     buffers: &mut Buffers,
     answer: &mut Answer,
-) -> Option<()> {
+) -> Option<()>
+    ensures { (tables.new.words ≡ tables.old.words) × (tables.new.memory ≡ tables.old.memory) }
+{
     let mut line = words.line;
     let dialect = dialect::read_dialect(&mut line)?;
     let room = arguments::room(&mut line)?;
@@ -61,7 +64,9 @@ fn receive_bytes(
 }
 
 // quiet DIALECT
-fn quiet(tables: &mut Tables, mut line: Line, answer: &mut Answer) -> Option<()> {
+fn quiet(tables: &mut Tables, mut line: Line, answer: &mut Answer) -> Option<()>
+    ensures { (tables.new.words ≡ tables.old.words) × (tables.new.memory ≡ tables.old.memory) }
+{
     let dialect = dialect::read_dialect(&mut line)?;
     line.end()?;
     let number = receive::quiet(dialect, &tables.words, &tables.memory, &mut tables.row);
@@ -76,7 +81,9 @@ pub fn run(
     words: Words,
     buffers: &mut Buffers,
     answer: &mut Answer,
-) -> Option<()> {
+) -> Option<()>
+    ensures { (tables.new.words ≡ tables.old.words) × (tables.new.memory ≡ tables.old.memory) }
+{
     match call {
         ReceiverCall::Receive => receive_bytes(tables, words, buffers, answer),
         ReceiverCall::Quiet => quiet(tables, words.line, answer),

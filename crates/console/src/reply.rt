@@ -1,5 +1,7 @@
 // The call that a line asks for, and the line that answers it. docs/CONSOLE.md.
-ghost use Rattle.std.specs.Prelude.{◌≤◌, length};
+ghost use Rattle.std.specs.Prelude.{◌≡◌, ◌≤◌, length};
+ghost use Rattle.card.specs.Layout.{card_of};
+ghost use Rattle.card.specs.Start.{start_card};
 ghost use Rattle.lines.specs.Lent.{line_most, answer_most};
 ghost use Rattle.console.specs.Holding.{Longer};
 ghost use Rattle.console.specs.Standing.{Standing};
@@ -12,6 +14,7 @@ use crate::master_calls::Asked;
 use crate::output::Held;
 use crate::question::Question;
 use crate::{card_calls, image_calls, output, question, receiver_calls, start, table_calls};
+use card::layout::{MEMORY, ROW, WORDS};
 use lines::line::Line;
 use lines::text::Text;
 use lines::{Answer, usage};
@@ -47,7 +50,11 @@ fn help(line: Line, answer: &mut Answer) -> Option<()> {
 impl State {
     fn new() -> State {
         State {
-            tables: start::start_tables(),
+            tables: Tables {
+                words: [0; WORDS],
+                memory: [0; MEMORY],
+                row: [0; ROW],
+            },
             exchange: Exchange::new(),
             asked: Asked::new(),
             buffers: Buffers::new(),
@@ -80,8 +87,8 @@ impl State {
         match question::read_line(bytes) {
             Question::Nothing => return false,
             Question::Unknown => answer.set(b"error unknown call"),
-            Question::Call(call, name, words) => {
-                if self.run(call, words, answer).is_none() {
+            Question::Call(call, name, line) => {
+                if self.run(call, Words { line }, answer).is_none() {
                     usage::tell_expected(answer, &CALLS, name);
                 }
             }
@@ -119,7 +126,7 @@ pub struct Console {
 }
 
 impl Console {
-    // Where the console starts.
+    // Nothing read yet, and tables of zeros.
     pub fn new() -> Console {
         Console {
             input: Input::new(),
@@ -127,6 +134,13 @@ impl Console {
             answer: Text::new(),
             held: Text::new(),
         }
+    }
+
+    // The card that the console starts with.
+    pub fn start(&mut self)
+        ensures { card_of self.new.state.tables.words self.new.state.tables.memory self.new.state.tables.row ≡ start_card }
+    {
+        start::start_tables(&mut self.state.tables);
     }
 
     // Reads on, and answers the line if it is whole. Nothing is held when the buffer is filled again.

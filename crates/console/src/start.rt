@@ -62,16 +62,13 @@ fn start_memory(memory: &mut [u8])
     memory[..CHANNELS].fill(FAULT_CODE);
 }
 
-// The tables.
-pub fn start_tables() -> Tables
-    ensures { card_of result.words result.memory result.row ≡ start_card }
+// The tables, where they stand: tables that are built apart are copied, and take more stack.
+pub fn start_tables(tables: &mut Tables)
+    ensures { card_of tables.new.words tables.new.memory tables.new.row ≡ start_card }
 {
-    let mut tables = Tables {
-        words: [0; WORDS],
-        memory: [0; MEMORY],
-        row: [0; ROW],
-    };
+    tables.words = [0; WORDS];
+    tables.memory = [0; MEMORY];
+    tables.row = [0; ROW];
     start_words(&mut tables.words);
     start_memory(&mut tables.memory);
-    tables
 }

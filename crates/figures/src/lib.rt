@@ -39,6 +39,9 @@ pub const ZERO: u8 = b'0';
 // The sign before a negative number's figures.
 pub const MINUS: u8 = b'-';
 
+// The words from here on are the negative numbers. Told by a comparison: the card has no signed type, so no byte can be widened with a sign.
+const HALF: u32 = u32::MAX / 2 + 1;
+
 // A function, so that its rule is a promise.
 fn alphabet() -> Alphabet
     ensures { IsAlphabet result }
@@ -93,14 +96,17 @@ pub fn size(n: u32) -> usize
 fn is_negative(w: u32) -> bool
     ensures { result ≡ is_negative w }
 {
-    w.cast_signed() < 0
+    HALF <= w
 }
 
 // A signed word's number without its sign.
 pub fn magnitude(w: u32) -> u32
     ensures { result ≡ magnitude w }
 {
-    w.cast_signed().unsigned_abs()
+    if is_negative(w) {
+        return u32::MAX - w + 1;
+    }
+    w
 }
 
 // One of two bytes, by the sign of a word.

@@ -4,7 +4,7 @@ ghost use Rattle.figures.specs.Figure.{figure_of};
 ghost use Rattle.figures.specs.Sheet.{IsSheet};
 
 // An entry for each byte. A sheet is always the sheet of figures: there is no other.
-#[derive(Drop)]
+#[derive(Clone, Copy)]
 pub struct Sheet {
     pub entries: [u8; 256],
     pub ghost right: { IsSheet entries },

@@ -17,11 +17,11 @@ use Rattle.lecom.specs.declared.frame.Refusal.TheVariants.{Refused}
 use Rattle.lecom.proofs.Frames.{extended_end}
 
 -- what was read of a code
-coded_wrong : (f : List ℕ) → code_right f ≡ false → Err (Refused frame_form) ≡ code_read f
+pub coded_wrong : (f : List ℕ) → code_right f ≡ false → Err (Refused frame_form) ≡ code_read f
 unfolding code_read
 coded_wrong f w = no _ _ _ _ w refl
 
-coded_right : (f : List ℕ) (named : Option Named) → code_right f ≡ true → named ≡ named_in f → Ok named ≡ code_read f
+pub coded_right : (f : List ℕ) (named : Option Named) → code_right f ≡ true → named ≡ named_in f → Ok named ≡ code_read f
 unfolding code_read
 coded_right f named r e = yes _ _ _ _ r (ap Ok e)
 

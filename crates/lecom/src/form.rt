@@ -1,7 +1,7 @@
 // The dialect's type: its shortest and longest frame and the rest of its form, for frame checks and receivers; and what a code names.
 // Document 01, "LECOM".
 ghost use Rattle.std.specs.Prelude.{◌≡◌, Some};
-ghost use Rattle.lecom.specs.Form.{shortest, longest, named_by, writable, free, takes};
+ghost use Rattle.lecom.specs.Form.{shortest, longest, named_by, known, writable, free, takes};
 
 use receiver::Frames;
 
@@ -108,5 +108,32 @@ impl Named {
         ensures { result ≡ takes (Some self) value }
     {
         self.is_free() | (value <= 1)
+    }
+}
+
+// Of what `named_by` gives, as callers ask it: whether the code names something.
+pub fn is_known(named: Option<Named>) -> bool
+    ensures { result ≡ known named }
+{
+    named.is_some()
+}
+
+// Whether a write may name it: nothing is never written.
+pub fn is_writable(named: Option<Named>) -> bool
+    ensures { result ≡ writable named }
+{
+    match named {
+        Some(named) => named.is_writable(),
+        None => false,
+    }
+}
+
+// Whether it takes a value: only ACTIVATE and STORE take 0 and 1 alone, so nothing takes every value.
+pub fn is_taken(named: Option<Named>, value: u32) -> bool
+    ensures { result ≡ takes named value }
+{
+    match named {
+        Some(named) => named.takes(value),
+        None => true,
     }
 }

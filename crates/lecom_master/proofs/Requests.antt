@@ -1,5 +1,5 @@
 -- What is known of a request that 7 does not refuse, and its bytes written piece by piece. Assumes nothing.
-use Rattle.std.proofs.Common.{Option, Some, None, is_some, not, Bool, false, ◌≡◌, ℕ, ◌+◌, ◌/◌, ◌%◌, ◌<◌, ◌≤◌, true, ◌&&◌, eqb, leb, List, [], ◌∷◌, ◌++◌, length, sym, refl, ap, ◌∙◌, append_assoc, arith, length-append, eqb-true, leb-true}
+use Rattle.std.proofs.Common.{Option, Some, None, ◌≡◌, ℕ, ◌+◌, ◌/◌, ◌%◌, ◌<◌, ◌≤◌, true, ◌&&◌, eqb, leb, List, [], ◌∷◌, ◌++◌, length, sym, refl, ap, ◌∙◌, append_assoc, arith, length-append, eqb-true, leb-true}
 use Rattle.wire.specs.Buffer.{put, part}
 use Rattle.wire.specs.Sum.{byte_values}
 use Rattle.wire.proofs.Buffers.{part_put, put_put}
@@ -36,18 +36,6 @@ known_byte code =
 pub writable_known : (named : Option Named) → writable named ≡ true → known named ≡ true
 writable_known (Some named) h = refl
 writable_known None h = h
-
--- a code names something, or nothing
-pub some_known : (named : Option Named) → is_some named ≡ known named
-some_known (Some named) = refl
-some_known None = refl
-
-pub none_known : (named : Option Named) {r : Bool} → is_some named ≡ not r → r ≡ not (known named)
-none_known named {r = r} e = flip r (sym (some_known named) ∙ e)
-  where
-    flip : (r : Bool) {t : Bool} → t ≡ not r → r ≡ not t
-    flip true e = sym (ap not e)
-    flip false e = sym (ap not e)
 
 pub read_byte : (code : ℕ) → task_right (Read code) ≡ true → code < byte_values
 unfolding task_right

@@ -113,7 +113,7 @@ fn is_standard_unknown(sheet: &Sheet, code: &[u8]) -> bool
     let Some(number) = frame::pair_in(sheet, code, 0) else {
         return false;
     };
-    form::named_by(number as u32).is_none()
+    !form::is_known(form::named_by(number as u32))
 }
 
 // Whether seven characters are an extended code that names nothing: by its number, or since its subcode is not 00.
@@ -136,7 +136,7 @@ fn is_extended_unknown(sheet: &Sheet, code: &[u8]) -> bool
     if subcode != 0 {
         return true;
     }
-    form::named_by(u16::from_be_bytes([first, second]) as u32).is_none()
+    !form::is_known(form::named_by(u16::from_be_bytes([first, second]) as u32))
 }
 
 // Whether a unit, whatever its address, refuses a read of these code characters for its code. The card's judge is not asked: with a second

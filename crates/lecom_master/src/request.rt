@@ -40,16 +40,14 @@ fn address_right(address: u32) -> bool
 fn write_right(code: u32, value: u32) -> bool
     ensures { result ≡ task_right (Write code value) }
 {
-    let Some(named) = form::named_by(code) else {
-        return false;
-    };
-    if !named.is_writable() {
+    let named = form::named_by(code);
+    if !form::is_writable(named) {
         return false;
     }
     if !fitness::in_span(value, REGISTER_LEAST, REGISTER_MOST) {
         return false;
     }
-    named.takes(value)
+    form::is_taken(named, value)
 }
 
 // Whether a task lies within document 01.
@@ -57,7 +55,7 @@ fn task_right(task: Task) -> bool
     ensures { result ≡ task_right task }
 {
     match task {
-        Task::Read(code) => form::named_by(code).is_some(),
+        Task::Read(code) => form::is_known(form::named_by(code)),
         Task::Write(code, value) => write_right(code, value),
     }
 }

@@ -61,6 +61,7 @@ pub fn word_end(s: &[u8], at: usize) -> usize
 }
 
 // Whether a word is a name.
+#[tactic(auto, using(crate::proofs::Words::same_pointwise))]
 pub fn is_word(word: &[u8], name: &[u8]) -> bool
     ensures { result ≡ same word.now name.now }
 {

@@ -10,7 +10,7 @@ ghost use Rattle.lines.specs.Text.{Put, spaced, told, told_most, entry_of, eight
 use card::governor::Governor;
 use card::numbers::{ANSWERED, PROBE_FAULT};
 
-pub(crate) const SPACE: u8 = b' ';
+pub const SPACE: u8 = b' ';
 
 // A byte's characters: two figures, and a space before them.
 const PAIR: usize = 2;
@@ -18,7 +18,7 @@ const PAIR: usize = 2;
 const SPACED: usize = 3;
 
 // A text of at most N bytes: the first len bytes of out.
-#[derive(Drop)]
+#[derive(Clone, Copy)]
 pub struct Text<const N: usize> {
     pub out: [u8; N],
     pub len: usize,

@@ -1,23 +1,25 @@
--- What an error reply shows: its code; and a reply of its length is none else. Assumes nothing.
-use Rattle.std.proofs.Common.{◌≡◌, ℕ, ◌<◌, Bool, true, false, ◌||◌, eqb, leb, List, length, sym, refl, ap, ◌∙◌, arith, eqb-true}
+-- What an error reply shows: its code by the second of its characters; and a reply of its length is none else. Assumes nothing.
+use Rattle.std.proofs.Common.{◌≡◌, ℕ, ◌+◌, ◌-◌, ◌%◌, ◌^◌, ◌<◌, Bool, true, false, ◌&&◌, ◌||◌, eqb, leb, List, [], ◌∷◌, length, get_or, sym, refl, ap, ◌∙◌, arith, eqb-true}
+use Rattle.wire.specs.Choose.{choose}
+use Rattle.wire.specs.Buffer.{same}
 use Rattle.wire.specs.Sum.{byte_values}
-use Rattle.wire.proofs.Cases.{no}
+use Rattle.wire.proofs.Cases.{yes, no}
 use Rattle.wire.proofs.Same.{same_refl, same_true, lengths_apart}
-use Rattle.wire.proofs.Tests.{and_true, and_false_right, both}
-use Rattle.figures.specs.Figure.{upper_hex, pair_of}
+use Rattle.wire.proofs.Tests.{and_true, and_false_right, both, same_test}
+use Rattle.figures.specs.Figure.{upper_hex, base, zero_char, char_of, pair_of}
 use Rattle.figures.proofs.Known.{pair_read}
 use Rattle.card.specs.Numbers.{frame_form}
 use Rattle.card.specs.Fitness.{love_address_most, love_right}
 use Rattle.love.specs.Frame.{byte_at}
 use Rattle.love.specs.Answer.{unit_of, error_reply, written_data}
 use Rattle.asking.specs.Hearing.{Hearing}
-use Rattle.asking.specs.Hearing.Hearing.{Done, Unread}
+use Rattle.asking.specs.Hearing.Hearing.{Done, Refused, Unread}
 use Rattle.love_master.specs.declared.request.Task.{Task}
 use Rattle.love_master.specs.declared.request.Task.TheVariants.{Status, Read, Write}
 use Rattle.love_master.specs.declared.request.Request.{Request}
 use Rattle.love_master.specs.Request.{task_right, askable}
 use Rattle.love_master.specs.Heard.{code_at, is_code, is_refusal, heard_data, heard_task, heard}
-use Rattle.love_master.specs.Stages.{error_length, written_reply_length, heard_error}
+use Rattle.love_master.specs.Stages.{error_length, written_reply_length, code_last_at, heard_error}
 use Rattle.love_master.proofs.Shown.{normal_length, other_length, value_length, status_length_law}
 
 -- what holds of the five codes holds of a code
@@ -38,6 +40,13 @@ by_code P c h p₁ p₂ p₄ p₅ p₆ = one (eqb c 1) (eqb c 2) (eqb c 4) (eqb 
 code_byte : (c : ℕ) → is_code c ≡ true → c < byte_values
 code_byte c h = by_code (λ (x : ℕ). x < byte_values) c h (omega arith) (omega arith) (omega arith) (omega arith) (omega arith)
 
+code_last : (c : ℕ) → is_code c ≡ true → char_of (c % base) ≡ c + zero_char
+unfolding char_of choose
+code_last c h = by_code (λ (x : ℕ). char_of (x % base) ≡ x + zero_char) c h refl refl refl refl refl
+
+code_small : (c : ℕ) → is_code c ≡ true → c < 7
+code_small c h = by_code (λ (x : ℕ). x < 7) c h (omega arith) (omega arith) (omega arith) (omega arith) (omega arith)
+
 pub error_length_law : (address code : ℕ) → length (error_reply address code) ≡ error_length
 unfolding error_reply unit_of pair_of
 error_length_law address code = refl
@@ -46,6 +55,10 @@ error_length_law address code = refl
 error_code : (address c : ℕ) → is_code c ≡ true → byte_at upper_hex (error_reply address c) code_at ≡ c
 unfolding error_reply unit_of pair_of
 error_code address c h = pair_read c (code_byte c h)
+
+error_last : (address c : ℕ) → is_code c ≡ true → get_or (error_reply address c) code_last_at 0 ≡ c + zero_char
+unfolding error_reply unit_of pair_of
+error_last address c h = code_last c h
 
 -- an error reply is heard as such
 pub refusal_heard : (address c : ℕ) → is_code c ≡ true → is_refusal address (error_reply address c) ≡ true
@@ -65,6 +78,38 @@ unfolding is_refusal
 refusal_length address r n =
     let c = byte_at upper_hex r code_at in
     rw (lengths_apart r (error_reply address c) (λ e. n (e ∙ error_length_law address c))) (and_false_right (is_code c))
+
+-- the code k by the second of its characters
+module _ (address : ℕ) (r : List ℕ) (k : ℕ) (shown : k ≡ (get_or r code_last_at 0 + (2 ^ 8 - zero_char)) % 2 ^ 8) where
+  told_back : (is_code k && same r (error_reply address k)) ≡ true → (is_refusal address r ≡ true) × (byte_at upper_hex r code_at ≡ k)
+  told_back h =
+      let b = and_true (is_code k) _ h in
+      let e : r ≡ error_reply address k = same_true r _ b.1 in
+      rw e (refusal_heard address k b.0, error_code address k b.0)
+
+  told : is_refusal address r ≡ true → (is_code k && same r (error_reply address k)) ≡ true
+  told h =
+      let c = byte_at upper_hex r code_at in
+      let p = refusal_is address r h in
+      let l : get_or r code_last_at 0 ≡ c + zero_char = ap (λ (s : List ℕ). get_or s code_last_at 0) p.1 ∙ error_last address c p.0 in
+      let e : k ≡ c = omega (arith, shown, l, code_small c p.0) in
+      rw e (both p.0 (ap (λ (s : List ℕ). same r s) (sym p.1) ∙ same_refl r))
+
+  refusal_told : is_refusal address r ≡ (is_code k && same r (error_reply address k))
+  refusal_told = same_test _ _ told (λ h. (told_back h).0)
+
+  -- another code, another reply, and the error reply
+  pub error_other : is_code k ≡ false → Unread frame_form ≡ heard_error address r (Unread frame_form)
+  unfolding heard_error
+  error_other h = no _ _ _ _ (refusal_told ∙ rw h) refl
+
+  pub error_none : is_code k ≡ true → same r (error_reply address k) ≡ false → Unread frame_form ≡ heard_error address r (Unread frame_form)
+  unfolding heard_error
+  error_none h n = no _ _ _ _ (refusal_told ∙ rw h n) refl
+
+  pub error_some : is_code k ≡ true → same r (error_reply address k) ≡ true → Refused (k ∷ []) ≡ heard_error address r (Unread frame_form)
+  unfolding heard_error
+  error_some h s = yes _ _ _ _ (refusal_told ∙ both h s) (ap (λ (c : ℕ). Refused (c ∷ [])) (sym (told_back (both h s)).1))
 
 -- a reply to a write of another length
 pub written_length : (address : ℕ) (r : List ℕ) → (length r ≡ written_reply_length → ⊥) → heard_data address r written_data Done ≡ Unread frame_form

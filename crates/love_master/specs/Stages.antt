@@ -26,9 +26,16 @@ value_reply_length = 13
 abbrev pub written_reply_length : ℕ
 written_reply_length = 9
 
--- where the last character of a read's sign stands
+-- the last character of a read's sign: where it stands, and ASCII 1, that of a negative number
 abbrev pub sign_last_at : ℕ
 sign_last_at = data_at + 1
+
+abbrev pub one_char : ℕ
+one_char = 49
+
+-- the last character of an error reply's code
+abbrev pub code_last_at : ℕ
+code_last_at = code_at + 1
 
 -- how many numbers four figures are
 abbrev pub number_values : ℕ

@@ -1,6 +1,5 @@
 // What the master hears in a reply. The reply's length comes first: it decides which kinds are possible.
-ghost use Rattle.std.specs.Prelude.{◌≡◌, ◌+◌, ℕ, ◌<◌, ◌≤◌, true, List, Some, None, length};
-ghost use Rattle.wire.specs.Choose.{choose};
+ghost use Rattle.std.specs.Prelude.{◌≡◌, ◌+◌, ℕ, ◌<◌, ◌≤◌, true, List, [], ◌∷◌, length};
 ghost use Rattle.figures.specs.Figure.{decimal, all_figures};
 ghost use Rattle.figures.specs.Decimal.{value_of};
 ghost use Rattle.card.specs.Layout.{love_count};
@@ -18,10 +17,9 @@ use crate::request::{Request, Task};
 use asking::{Heard, Unread};
 use card::layout::LOVE;
 use card::{ROOM_LEAST, fitness};
-use figures::sheet::Sheet;
-use figures::{UPPER_HEX, ZERO};
+use figures::ZERO;
 use love::answer;
-use love::answer::{BELOW_ZERO, FAULT, FIGURES, FINE, NEGATIVE, STATUS_SIZE};
+use love::answer::{BELOW_ZERO, FAULT, FIGURES, FINE, STATUS_SIZE};
 use love::form::{Address, Love};
 
 // The two checksum figures, and where they stand, counted from the end.
@@ -29,11 +27,16 @@ const CHECK_SIZE: usize = 2;
 
 const CHECK_BACK: usize = 3;
 
-// Where the code of an error reply stands, behind N.
-const CODE: usize = Love::DATA + 1;
+// Where the code of an error reply ends, and where the sign of a read does.
+const CODE_LAST: usize = Love::DATA + Love::PAIR;
+
+const SIGN_LAST: usize = Love::DATA + 1;
 
 // Where the sign of a reply to 00 stands.
 const STATUS_SIGN: usize = Love::DATA + STATUS_SIZE - 1;
+
+// The second character of the sign 01.
+const NEGATIVE: u8 = b'1';
 
 // How many bytes each reply has: STX, filter and address; N and code, or data and checksum; ACK.
 const ERROR_LENGTH: usize = Love::DATA + 1 + Love::PAIR + 1;
@@ -44,40 +47,50 @@ const VALUE_LENGTH: usize = Love::DATA + Love::PAIR + FIGURES + Love::TAIL;
 
 const STATUS_LENGTH: usize = Love::DATA + STATUS_SIZE + FIGURES + Love::TAIL;
 
-// The number that four figures from an index on are. The cast loses nothing: it has four figures.
-fn number_at(sheet: &Sheet, reply: &[u8], at: usize) -> Option<u32>
-    requires { at + figure_count ≤ length reply.now }
-    ensures { result ≡ choose (all_figures decimal (figures_at reply.now at)) (Some (value_of (figures_at reply.now at))) None }
+// The weights of four figures, and what the character 0 counts in all of them.
+const THOUSAND: u32 = 1_000;
+
+const HUNDRED: u32 = 100;
+
+const TEN: u32 = 10;
+
+const ZEROS: u32 = (THOUSAND + HUNDRED + TEN + 1) * ZERO as u32;
+
+// The number that four figures are. Other characters need no test here: the reply is compared with the number's own figures. So no sheet is
+// made, which would cost more than the rest of the reading.
+fn number_of(a: u8, b: u8, c: u8, d: u8) -> u32
+    ensures { all_figures decimal (a ∷ b ∷ c ∷ d ∷ []) ≡ true → result ≡ value_of (a ∷ b ∷ c ∷ d ∷ []) }
 {
-    let value = sheet.value(&reply[at..at + FIGURES])?;
-    Some(value as u32)
+    let high = THOUSAND * a as u32 + HUNDRED * b as u32;
+    let low = TEN * c as u32 + d as u32;
+    (high + low).wrapping_sub(ZEROS)
 }
 
-// Whether this is one of the error codes.
-#[tactic(auto, using(wire::proofs::Cases::cases), unfolding(crate::specs::Heard::is_code))]
+// The number that four figures from an index on are.
+fn number_at(reply: &[u8], at: usize) -> u32
+    requires { at + figure_count ≤ length reply.now }
+    ensures { all_figures decimal (figures_at reply.now at) ≡ true → result ≡ value_of (figures_at reply.now at) }
+{
+    number_of(reply[at], reply[at + 1], reply[at + 2], reply[at + 3])
+}
+
+// Whether this is one of the error codes. Tests joined by `|`, and no `matches!`: they come to one look into a word of bits.
 fn is_code(code: u8) -> bool
     ensures { result ≡ is_code code }
 {
-    matches!(
-        code,
-        Love::UNDEFINED_COMMAND
-            | Love::CHECKSUM_ERROR
-            | Love::ILLEGAL_CHARACTER
-            | Love::FIELD_ERROR
-            | Love::OUT_OF_RANGE
-    )
+    (code == Love::UNDEFINED_COMMAND)
+        | ((code == Love::CHECKSUM_ERROR)
+            | ((code == Love::ILLEGAL_CHARACTER)
+                | ((code == Love::FIELD_ERROR) | (code == Love::OUT_OF_RANGE))))
 }
 
-// A reply as long as an error reply: its code, and then all of it, N too, in the comparison.
+// A reply as long as an error reply: the code is taken from its second character, and all of it, N too, is seen in the comparison.
 // Its own scratch, and not `compared`: an error reply has no check characters, so all of it is compared at once.
 fn hear_error(address: Address, reply: &[u8]) -> Result<Heard, Unread>
     requires { length reply.now ≡ error_length }
     ensures { hearing_of result ≡ heard_error address.value reply.now (Nothing frame_form) }
 {
-    let sheet = figures::sheet::take();
-    let code = sheet
-        .pair_byte(reply[CODE], reply[CODE + 1], UPPER_HEX)
-        .ok_or(Unread::Form)?;
+    let code = reply[CODE_LAST].wrapping_sub(ZERO);
     if !is_code(code) {
         return Err(Unread::Form);
     }
@@ -121,10 +134,8 @@ fn hear_value(address: Address, place: u32, reply: &[u8]) -> Result<Heard, Unrea
     if reply.len() != VALUE_LENGTH {
         return Err(Unread::Form);
     }
-    let sheet = figures::sheet::take();
-    let number = number_at(&sheet, reply, Love::DATA + Love::PAIR).ok_or(Unread::Form)?;
-    let sign = sheet.pair_byte(reply[Love::DATA], reply[Love::DATA + 1], UPPER_HEX);
-    let word = figures::with_sign(sign == Some(NEGATIVE), number);
+    let number = number_at(reply, Love::DATA + Love::PAIR);
+    let word = figures::with_sign(reply[SIGN_LAST] == NEGATIVE, number);
     if !fitness::in_range(LOVE + place as usize, word) {
         return Err(Unread::Form);
     }
@@ -140,8 +151,7 @@ fn hear_temperature(address: Address, reply: &[u8]) -> Result<Heard, Unread>
     requires { length reply.now ≡ status_reply_length }
     ensures { hearing_of result ≡ heard_temperature address.value reply.now }
 {
-    let sheet = figures::sheet::take();
-    let number = number_at(&sheet, reply, Love::DATA + STATUS_SIZE).ok_or(Unread::Form)?;
+    let number = number_at(reply, Love::DATA + STATUS_SIZE);
     let word = figures::with_sign(reply[STATUS_SIGN] == BELOW_ZERO, number);
     if !asking::is_temperature(1, word) {
         return Err(Unread::Form);

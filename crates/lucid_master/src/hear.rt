@@ -6,7 +6,7 @@ ghost use Rattle.lucid.specs.Form.{tenths, size_of, number_at};
 ghost use Rattle.asking.specs.Hearing.{hearing_of};
 ghost use Rattle.lucid_master.specs.Request.{asking_of};
 ghost use Rattle.lucid_master.specs.Heard.{short_values, is_status, shaped, word_of, answerable, heard_values, heard_parameter, heard_done, heard_command, heard};
-ghost use Rattle.lucid_master.specs.Stages.{Headed, bare_status};
+ghost use Rattle.lucid_master.specs.Stages.{Headed, bare_status, value_count};
 
 use crate::request::{Command, Request};
 use asking::{Group, Heard, Unread, is_temperature};
@@ -109,7 +109,7 @@ fn hear_values(value_type: u8, n: usize, reply: &[u8]) -> Result<Heard, Unread>
         }
         values[i] = value;
     }
-    Ok(Heard::Values(Group::new(&values[..n])))
+    Ok(Heard::Values(Group { count: n, values }))
 }
 
 // What is heard where a parameter was asked for.
@@ -137,19 +137,26 @@ fn hear_done(reply: &[u8]) -> Result<Heard, Unread>
     Ok(Heard::Done)
 }
 
+// How many values a request to read asks for, one for any other. Apart, so that `hear_values` is called in one place, and its values are not
+// handed on in memory.
+fn value_count(request: Request) -> usize
+    requires { Headed request }
+    ensures { (result ≡ value_count request.command request.p1) × (result ≤ channels) }
+{
+    match request.command {
+        Command::GetIoGroup => frame::count(request.p1 as u8) as usize,
+        _ => 1,
+    }
+}
+
 // What is heard in a reply that refuses nothing.
 fn hear_answer(request: Request, reply: &[u8]) -> Result<Heard, Unread>
     requires { Headed request }
     ensures { hearing_of result ≡ heard_command request.command request reply.now }
 {
     match request.command {
-        Command::GetIo => hear_values(request.p2 as u8, 1, reply),
-        Command::GetIoGroup => {
-            hear_values(
-                request.p2 as u8,
-                frame::count(request.p1 as u8) as usize,
-                reply,
-            )
+        Command::GetIo | Command::GetIoGroup => {
+            hear_values(request.p2 as u8, value_count(request), reply)
         }
         Command::GetParam => {
             hear_parameter(frame::place_of(request.p1 as u8, request.address), reply)

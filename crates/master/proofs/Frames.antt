@@ -1,5 +1,5 @@
 -- Laws of specs/Frames.antt: the data of a change, when two lists are the same, and when an answer is a response or an echo. Assumes nothing.
-use Rattle.std.proofs.Common.{◌≡◌, refl, sym, ap, ◌∙◌, subst, Bool, true, false, ◌&&◌, List, [], ◌∷◌, ◌++◌, append_assoc, ℕ, zero, suc, ◌+◌, ◌-◌, ◌*◌, ◌%◌, ◌/◌, ◌≤◌, ◌<◌, arith, eq-eqb, eqb-true, eqb, lit≤, length, get_or, take, drop, set, length-append, length-take, length-drop, take_all, take-suc, take-add, length-take-le}
+use Rattle.std.proofs.Common.{◌≡◌, refl, sym, ap, ◌∙◌, subst, Bool, true, false, ◌&&◌, List, [], ◌∷◌, ◌++◌, append_assoc, ℕ, zero, suc, ◌+◌, ◌-◌, ◌*◌, ◌%◌, ◌/◌, ◌≤◌, ◌<◌, add-one, arith, eq-eqb, eqb-true, eqb, lit≤, length, get_or, take, drop, set, length-append, length-take, length-drop, drop_of_length-le, drop-cons, take_all, take-suc, take-add, length-take-le}
 use Prim.{tt}
 use borrow.Author.Tests.{eqb-false}
 use lib.Seq.{take-append_seam}
@@ -92,22 +92,23 @@ unfolding same
 same_one x y = and_true_right (eqb x y)
 
 -- compared from the front, with masks and states by turns
-pub turns_next : (ok : Bool) (pair shown masks states : List ℕ) (m s : ℕ) → length pair ≡ 2
-    → (ok && same (pair ++ shown) (m ∷ s ∷ pairs masks states))
-    ≡ ((ok && (eqb (get_or pair 0 0) m && eqb (get_or pair 1 0) s)) && same shown (pairs masks states))
+pub turns_next : (ok : Bool) (shown masks states : List ℕ) (i : ℕ) → length masks ≡ length states → length shown ≡ 2 * length masks → i < length masks
+    → (ok && same (drop (2 * i) shown) (pairs (drop i masks) (drop i states)))
+    ≡ ((ok && (eqb (get_or shown (2 * i) 0) (get_or masks i 0) && eqb (get_or shown (2 * i + 1) 0) (get_or states i 0)))
+    && same (drop (2 * suc i) shown) (pairs (drop (suc i) masks) (drop (suc i) states)))
 unfolding same
-turns_next ok [] shown masks states m s l = let z : ⊥ = omega arith in absurd z
-turns_next ok (x ∷ []) shown masks states m s l = let z : ⊥ = omega arith in absurd z
-turns_next ok (x ∷ y ∷ []) shown masks states m s l =
-    let rest = same shown (pairs masks states) in
-    ap (λ (t : Bool). ok && t) (and_assoc (eqb x m) (eqb y s) rest) ∙ and_assoc ok (eqb x m && eqb y s) rest
-turns_next ok (x ∷ y ∷ z ∷ p) shown masks states m s l = let z : ⊥ = omega arith in absurd z
+turns_next ok shown masks states i e l h =
+    let mask = eqb (get_or shown (2 * i) 0) (get_or masks i 0) in
+    let state = eqb (get_or shown (suc (2 * i)) 0) (get_or states i 0) in
+    let rest = same (drop (suc (suc (2 * i))) shown) (pairs (drop (suc i) masks) (drop (suc i) states)) in
+    let next : 2 * suc i ≡ suc (suc (2 * i)) = omega arith in
+    rw (next, add-one (2 * i), drop-cons shown (2 * i) 0 (omega arith), drop-cons shown (suc (2 * i)) 0 (omega arith), drop-cons masks i 0 h, drop-cons states i 0 (omega arith))
+    (ap (λ (t : Bool). ok && t) (and_assoc mask state rest) ∙ and_assoc ok (mask && state) rest)
 
-pub turns_end : (ok : Bool) (shown masks states : List ℕ) → length shown ≡ 0 → length masks ≡ 0 → (ok && same shown (pairs masks states)) ≡ ok
+pub turns_end : (ok : Bool) (shown masks states : List ℕ) (i : ℕ) → length shown ≤ 2 * i → length masks ≤ i
+    → (ok && same (drop (2 * i) shown) (pairs (drop i masks) (drop i states))) ≡ ok
 unfolding same
-turns_end ok [] [] states e f = and_true_right ok
-turns_end ok (x ∷ shown) masks states e f = let z : ⊥ = omega arith in absurd z
-turns_end ok [] (m ∷ masks) states e f = let z : ⊥ = omega arith in absurd z
+turns_end ok shown masks states i h k = rw (drop_of_length-le shown h, drop_of_length-le masks k) (and_true_right ok)
 
 -- every byte read as asked, byte by byte
 

@@ -11,14 +11,17 @@ use crate::frame;
 use crate::request::{Askable, Kind};
 use datalink::form::Datalink;
 
-// Whether bytes shown are masks and states by turns.
+// Whether bytes shown are masks and states by turns. By an index: so the loop runs on several bytes at once, and with pairs zipped to masks
+// and states it runs on one.
 fn is_by_turns(shown: &[u8], masks: &[u8], states: &[u8]) -> bool
     requires { (length masks.now ≡ length states.now) × (length shown.now ≡ 2 * length masks.now) }
     ensures { result ≡ same shown.now (pairs masks.now states.now) }
 {
     let mut ok = true;
-    for (pair, (mask, state)) in shown.chunks_exact(2).zip(masks.iter().zip(states)) {
-        ok = ok & ((pair[0] == *mask) & (pair[1] == *state));
+    for i in 0..masks.len() {
+        let mask = shown[2 * i] == masks[i];
+        let state = shown[2 * i + 1] == states[i];
+        ok = ok & (mask & state);
     }
     ok
 }

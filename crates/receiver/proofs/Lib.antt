@@ -5,4 +5,5 @@ pub mod Stored
 pub mod Chunks
 pub mod Divided
 pub mod Sure
+pub mod Among
 pub mod Computed

@@ -56,6 +56,7 @@ pub trait Collect: Frames {
 }
 
 // Whether a byte is among some.
+#[tactic(auto, using(crate::proofs::Among::told_among))]
 pub fn has(bytes: &[u8], x: u8) -> bool
     ensures { result ≡ among x bytes.now }
 {

@@ -5,7 +5,7 @@ pub mod dialect;
 mod entry;
 mod table;
 
-ghost use Rattle.std.specs.Prelude.{◌+◌, ◌≤◌, ◌<◌, length, IfSome};
+ghost use Rattle.std.specs.Prelude.{◌≡◌, ◌+◌, ◌≤◌, ◌<◌, length, IfSome};
 ghost use Rattle.tables.specs.Entries.{change_count, entry_count, most_of, Tabled};
 
 use card::change::NO_CHANGE;
@@ -27,7 +27,8 @@ pub struct Tables {
 // The next word as a value that the entry can hold.
 fn read_value(line: &mut Line, entry: usize) -> Option<u32>
     requires { entry < entry_count }
-    ensures { IfSome result (λ v. v ≤ most_of entry) }
+    ensures most { IfSome result (λ v. v ≤ most_of entry) }
+    ensures stays { line.new.bytes.now ≡ line.old.bytes.now }
 {
     if WORDS <= entry {
         return line.number(entry::most(entry));

@@ -90,7 +90,9 @@ fn part_of(dialect: Dialect) -> Span
 }
 
 // The next word as a table's name, or the next two.
-pub(crate) fn read_table(line: &mut Line) -> Option<Span> {
+pub(crate) fn read_table(line: &mut Line) -> Option<Span>
+    ensures { line.new.bytes.now ≡ line.old.bytes.now }
+{
     let name = line.word();
     if line::is_word(name, b"part") {
         return Some(part_of(dialect::read_dialect(line)?));

@@ -19,35 +19,51 @@ pub fn sum(s: &[u8]) -> u8
     sum
 }
 
-// Whether two slices of one length hold the same bytes.
+// Whether two slices of one length hold the same bytes. No early exit: so the loop runs on several bytes at once. `==` of slices calls
+// the library for each comparison.
 pub fn is_same(a: &[u8], b: &[u8]) -> bool
     requires { length a.now ≡ length b.now }
     ensures { result ≡ same a.now b.now }
 {
-    a == b
+    let mut ok = true;
+    for i in 0..a.len() {
+        ok = ok & (a[i] == b[i]);
+    }
+    ok
 }
 
-// Copies all of src into dst from index at on.
+// Copies all of src into dst from index at on. A loop: `copy_from_slice` needs `memmove` of whoever links the library.
 pub fn copy(src: &[u8], dst: &mut [u8], at: usize)
     requires { at + length src.now ≤ length dst.old }
     ensures { dst.new ≡ put dst.old at src.now }
 {
-    dst[at..at + src.len()].copy_from_slice(src);
+    for i in 0..src.len() {
+        dst[at + i] = src[i];
+    }
 }
 
-// Copies all of bytes into dst from index at on, and gives their sum, taken modulo 256.
+// Copies all of bytes into dst from index at on, and gives their sum, taken modulo 256. One loop: with `copy` and then `sum` each byte is
+// gone over twice.
 pub fn copy_sum(bytes: &[u8], dst: &mut [u8], at: usize) -> u8
     requires { at + length bytes.now ≤ length dst.old }
     ensures { (result ≡ sum_of bytes.now) × (dst.new ≡ put dst.old at bytes.now) }
 {
-    copy(bytes, dst, at);
-    sum(bytes)
+    let mut summed: u8 = 0;
+    for i in 0..bytes.len() {
+        let b = bytes[i];
+        dst[at + i] = b;
+        summed = summed.wrapping_add(b);
+    }
+    summed
 }
 
-// Copies n words from index from to index to; the two runs do not meet.
+// Copies n words from index from to index to; the two runs do not meet. A loop: `copy_within` needs `memmove` of whoever links the library.
 pub fn move_words(words: &mut [u32], from: usize, to: usize, n: usize)
     requires { ((from + n ≤ length words.old) × (to + n ≤ length words.old)) × ((from + n ≤ to) ⊎ (to + n ≤ from)) }
     ensures { words.new ≡ put words.old to (part words.old from (from + n)) }
 {
-    words.copy_within(from..from + n, to);
+    for i in 0..n {
+        let x = words[from + i];
+        words[to + i] = x;
+    }
 }

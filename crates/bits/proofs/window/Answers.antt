@@ -1,10 +1,16 @@
 -- `bits::window` meets its contract: the library's number is the field of the bytes. Assumes nothing.
-use Rattle.std.proofs.Common.{◌≡◌, ◌+◌, ◌-◌, drop, take, ◌∙◌, arith, get_or-take, get_or-drop}
-use Rattle.bits.proofs.Reading.{field_window}
+use Rattle.std.proofs.Common.{refl, ◌∙◌, arith, length-set}
+use Rattle.bits.proofs.Reading.{field_window, filled_next}
 use Rattle.bits.proofs.window.Goals as goal
+
+pub loop-i-init : goal.loop-i-init
+loop-i-init c = (refl, λ j h. omega arith)
+
+pub loop-i-preserved : goal.loop-i-preserved
+loop-i-preserved c = let l = c.loop-i in
+    (rw length-set l.invariant.0, λ j h. filled_next l.bytes c.args.image.now c.args.first l.i j (omega arith) h l.invariant.1)
 
 pub returns : goal.returns
 returns c = let a = c.args in
-    let s = a.image.now in
-    let n : a.first + 8 - a.first ≡ 8 = omega arith in
-    c.from_be_bytes.ensures ∙ rw (c.copy_from_slice.ensures.after, n) (field_window s (take 8 (drop a.first s)) a.first (λ k. omega (arith, c.type_inv.image k)) (λ i h. get_or-take 8 (drop a.first s) i 0 h ∙ get_or-drop a.first s i 0))
+    let l = c.loop-i in
+    c.from_be_bytes.ensures ∙ field_window a.image.now l.bytes a.first (λ k. omega (arith, c.type_inv.image k)) (λ i h. l.invariant.1 i (omega arith))

@@ -1,15 +1,17 @@
--- `wire::is_same` meets its contract: the library compares from the front too. Assumes nothing.
-use Rattle.std.proofs.Common.{◌≡◌, ℕ, Bool, ◌&&◌, eqb, List, [], ◌∷◌, refl, ap, ◌∙◌}
-use Rattle.std.specs.Cmp.Lexicographic.{pointwise}
-use Rattle.wire.specs.Buffer.{same}
+-- `wire::is_same` meets its contract. The invariant: ok tells of the first i bytes. Assumes nothing.
+use Rattle.std.proofs.Common.{sym, refl, ◌∙◌, add-one, arith}
+use Rattle.wire.proofs.Same.{same_next, same_end}
 use Rattle.wire.proofs.is_same.Goals as goal
 
-pointwise_same : (xs ys : List ℕ) → pointwise eqb xs ys ≡ same xs ys
-unfolding same
-pointwise_same [] [] = refl
-pointwise_same [] (y ∷ ys) = refl
-pointwise_same (x ∷ xs) [] = refl
-pointwise_same (x ∷ xs) (y ∷ ys) = ap (λ (t : Bool). eqb x y && t) (pointwise_same xs ys)
+pub loop-i-init : goal.loop-i-init
+loop-i-init c = refl
+
+pub loop-i-preserved : goal.loop-i-preserved
+loop-i-preserved c = let l = c.loop-i in
+    let a = c.args in
+    rw (add-one l.i) (l.invariant ∙ same_next l.ok a.a.now a.b.now l.i (omega arith) (omega arith))
 
 pub returns : goal.returns
-returns c = c.eq.ensures ∙ pointwise_same c.args.a.now c.args.b.now
+returns c = let l = c.loop-i in
+    let a = c.args in
+    sym (l.invariant ∙ same_end l.ok a.a.now a.b.now l.i (omega arith) (omega arith))

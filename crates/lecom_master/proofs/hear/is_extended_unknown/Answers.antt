@@ -6,7 +6,6 @@ use Rattle.figures.specs.Figure.{no_byte, byte_or_none}
 use Rattle.lecom.specs.Form.{standard_at, subcode_at, named_by, known}
 use Rattle.lecom.specs.Frame.{pair_in, quad_in}
 use Rattle.lecom_master.specs.Stages.{extended_unknown}
-use Rattle.lecom_master.proofs.Requests.{none_known}
 use Rattle.lecom_master.proofs.hear.is_extended_unknown.Goals as goal
 use Rattle.lecom_master.proofs.hear.is_extended_unknown.Goals.{In-Some-pair_in-2}
 
@@ -65,4 +64,4 @@ returns c =
     yes _ _ _ _ (eq-eqb _ _ c.if-code-ne-EXTENDED.false)
     (no _ _ _ _ (rw (ne_eqb (pair_in f 1) no_byte (λ e. omega (arith, a, e)), ne_eqb (pair_in f (1 + standard_at)) no_byte (λ e. omega (arith, b, e)), ne_eqb (pair_in f (1 + subcode_at)) no_byte (λ e. omega (arith, d, e))))
     (yes _ _ _ _ (eq-eqb _ _ (sym d ∙ c.if-subcode-ne0.false))
-    (none_known _ c.is_none.ensures ∙ ap not (ap known (c.named_by.ensures ∙ ap named_by (omega (arith, a, b, c.from_be_bytes.ensures)))))))
+    (ap not (c.is_known.ensures ∙ ap known (c.named_by.ensures ∙ ap named_by (omega (arith, a, b, c.from_be_bytes.ensures)))))))

@@ -4,7 +4,6 @@ use Rattle.figures.specs.Figure.{byte_or_none}
 use Rattle.wire.proofs.Cases.{yes, no}
 use Rattle.lecom.specs.Form.{named_by, known}
 use Rattle.lecom_master.specs.Stages.{standard_unknown}
-use Rattle.lecom_master.proofs.Requests.{none_known}
 use Rattle.lecom_master.proofs.hear.is_standard_unknown.Goals as goal
 
 pub returns-in_default : goal.returns-in_default
@@ -16,4 +15,4 @@ unfolding standard_unknown
 returns c =
     let pair = sym (ap byte_or_none c.in-Some.is) ∙ c.pair_in.ensures in
     no _ _ _ _ (ne_eqb _ _ (λ e. omega (arith, pair, e)))
-    (none_known _ c.is_none.ensures ∙ ap not (ap known (c.named_by.ensures ∙ ap named_by pair)))
+    (ap not (c.is_known.ensures ∙ ap known (c.named_by.ensures ∙ ap named_by pair)))

@@ -1,36 +1,27 @@
 -- `love_master::hear::hear_temperature` meets its contract. Assumes nothing.
-use Rattle.std.proofs.Common.{◌≡◌, ◌+◌, true, sym, ap, ◌∙◌, arith, rules}
-use Rattle.wire.proofs.Cases.{cases}
-use Rattle.figures.specs.Figure.{decimal, all_figures}
-use Rattle.love.specs.Form.{data_at}
+use Rattle.std.proofs.Common.{◌≡◌, ℕ, List, sym, refl, ap, ◌∙◌, arith, rules}
+use Rattle.wire.proofs.Cases.{yes, no, told_false, told_true}
 use Rattle.love.specs.Answer.{normal_reply, fine_char, status_data, probe_data}
-use Rattle.love.proofs.Exits.{handed_on, is_given, is_none}
-use Rattle.asking.specs.Hearing.{hearing_of}
-use Rattle.love_master.specs.Heard.{figures_at, heard_data, status_word}
+use Rattle.love_master.specs.Heard.{heard_data}
 use Rattle.love_master.specs.Stages.{heard_temperature}
-use Rattle.love_master.proofs.Shown.{status_whole}
+use Rattle.love_master.proofs.Shown.{said_status, status_settled, status_whole}
 use Rattle.love_master.proofs.hear.hear_temperature.Goals as goal
 use Rattle.love_master.proofs.hear.hear_temperature.Goals.{After-with_sign-word}
 
-pub returns-in_err-number : goal.returns-in_err-number
-unfolding heard_temperature
-returns-in_err-number c =
-    let none = c.in_err-number.ensures in
-    let wrong = is_none _ _ (sym none.ok_part ∙ c.number_at.ensures) in
-    ap hearing_of (handed_on _ _ _ _ none.ok_part none.value c.from_residual.ensures.1) ∙ search (cases, wrong)
+-- what is heard by the word that was read
+module _ (c : After-with_sign-word) where
+  abbrev reply : List ℕ
+  reply = c.args.reply.now
 
--- the figures are figures, and the word is the one that the reply shows
-read : (c : After-with_sign-word) → (all_figures decimal (figures_at c.args.reply.now (data_at + 4)) ≡ true) × (c.with_sign-word.result ≡ status_word c.args.reply.now)
-unfolding status_word
-read c =
-    let given = is_given _ _ _ (sym c.in_ok-number.ensures.ok_part ∙ c.number_at.ensures) in
-    (given.0, rw (← given.1) c.with_sign-word.ensures)
+  settled : heard_temperature c.args.address.value reply ≡ said_status c.args.address.value reply c.with_sign-word.result
+  settled =
+      let a = c.args.address.value in
+      let n = c.number_at-number in
+      status_settled a reply n.result (search rules) n.ensures (rw (← c.with_sign-word.ensures) (search rules)) ∙ ap (said_status a reply) (sym c.with_sign-word.ensures)
 
 pub returns-then-not-is_temperature : goal.returns-then-not-is_temperature
-unfolding heard_temperature
-returns-then-not-is_temperature c =
-    let r = read ((goal.at.returns-then-not-is_temperature c).After-with_sign-word) in
-    rw (← r.1) (search (cases, r.0))
+unfolding said_status
+returns-then-not-is_temperature c = no _ _ _ _ (told_false c.is_temperature.ensures c.if-not-is_temperature.true) refl ∙ sym (settled ((goal.at.returns-then-not-is_temperature c).After-with_sign-word))
 
 pub compared-requires : goal.compared-requires
 compared-requires c =
@@ -43,8 +34,8 @@ compared-requires c =
     }
 
 pub returns : goal.returns
-unfolding heard_temperature heard_data probe_data
+unfolding said_status heard_data probe_data
 returns c =
-    let r = read ((goal.at.returns c).After-with_sign-word) in
     let said = c.compared.ensures (normal_reply c.args.address.value (status_data fine_char c.by_sign-fourth.result c.magnitude-size.result)) (record { may = λ p h. search rules; does = λ p q len h e. search rules }) in
-    rw (c.magnitude-size.ensures, c.by_sign-fourth.ensures) at said ∙ rw (← r.1) (search (cases, r.0))
+    rw (c.magnitude-size.ensures, c.by_sign-fourth.ensures) at said
+    ∙ yes _ _ _ _ (told_true c.is_temperature.ensures c.if-not-is_temperature.false) refl ∙ sym (settled ((goal.at.returns c).After-with_sign-word))

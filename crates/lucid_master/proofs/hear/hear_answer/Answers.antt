@@ -2,6 +2,7 @@
 use Rattle.std.proofs.Common.{inl, inr, arith}
 use Rattle.lucid.proofs.Frames.{place_within}
 use Rattle.lucid_master.specs.Heard.{heard_command}
+use Rattle.lucid_master.specs.Stages.{value_count}
 use Rattle.lucid_master.proofs.hear.hear_answer.Goals as goal
 
 pub hear_parameter-requires : goal.hear_parameter-requires
@@ -9,12 +10,13 @@ hear_parameter-requires c = let q = c.args.request in
     omega (arith, c.place_of.ensures, place_within q.p1 q.address (c.requires.channel c.in-GetParam.is))
 
 pub returns-in-GetIo : goal.returns-in-GetIo
-unfolding heard_command
-returns-in-GetIo c = rw c.in-GetIo.is c.hear_values.ensures
-
-pub returns-in-GetIoGroup : goal.returns-in-GetIoGroup
-unfolding heard_command
-returns-in-GetIoGroup c = rw (c.in-GetIoGroup.is, ← c.count.ensures.0) c.hear_values-in-GetIoGroup.ensures
+unfolding heard_command value_count
+returns-in-GetIo c =
+    let said = rw c.value_count.ensures.0 at c.hear_values.ensures in
+    elim c.in-GetIo.is [
+      | inl one ↦ rw one (rw one at said)
+      | inr group ↦ rw group (rw group at said)
+    ]
 
 pub returns-in-GetParam : goal.returns-in-GetParam
 unfolding heard_command

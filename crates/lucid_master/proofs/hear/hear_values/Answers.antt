@@ -1,6 +1,5 @@
 -- `lucid_master::hear::hear_values` meets its contract. The invariant: the values so far are known, and those to come stand behind them. Assumes nothing.
-use Rattle.asking.specs.Hearing.Hearing.{Gives}
-use Rattle.std.proofs.Common.{refl, ap, ◌∙◌, ◌*◌}
+use Rattle.std.proofs.Common.{refl, ◌*◌}
 use Rattle.wire.proofs.Cases.{no, told_true, told_false}
 use Rattle.wire.proofs.Tests.{and_false_right}
 use Rattle.lucid.specs.Form.{size_of}
@@ -36,4 +35,4 @@ pub returns : goal.returns
 returns c = let l = c.loop-i in
     let a = c.args in
     let shape = told_true c.is_shaped.ensures c.if-not-is_shaped.false in
-    ap Gives c.new.ensures ∙ heard_all a.value_type a.n a.reply.now l.values l.i c.loop-i-test.false (rw c.size-size.ensures.0 at shape) l.invariant
+    heard_all a.value_type a.n a.reply.now l.values l.i c.loop-i-test.false (rw c.size-size.ensures.0 at shape) l.invariant
